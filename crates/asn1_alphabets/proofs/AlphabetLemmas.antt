@@ -104,7 +104,7 @@ pub found_is : (set : List ℕ) (c : ℕ) (o : Option ℕ)
 found_is set c None none = sym none
 found_is set c (Some k) place = sym (stands_in set k c place)
 
--- what is kept is there, and else nothing is
+-- a value that is kept is present
 pub is_some_if : {A : Type 0} (kept : Bool) (value : A) (o : Option A) → some_if kept value ≡ o → kept ≡ true
     → is_some o ≡ true
 is_some_if true value o same told = rw (sym same) refl

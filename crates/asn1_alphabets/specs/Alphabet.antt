@@ -8,7 +8,7 @@ use Rattle.asn1_characters.specs.declared.character_set.CharacterSetName.{Charac
 use Rattle.asn1_characters.specs.declared.error.PermittedAlphabetError.{PermittedAlphabetError}
 use Rattle.asn1_characters.specs.declared.error.PermittedAlphabetError.TheVariants.{CharacterNotFound, IndexNotFound, InvalidRestrictedString}
 
--- where an alphabet's set comes from, which says how it refuses: it is a permitted set, or the base
+-- where an alphabet's set comes from, which tells its error: it is a permitted set, or the base
 -- set of a string
 pub data Origin : Type 0 where
   Permitted : Origin
@@ -34,7 +34,7 @@ abbrev pub kept_set : CharacterSetName → Option (List ℕ) → Bool → Option
 kept_set name None aligned = None
 kept_set name (Some set) aligned = if keeps name aligned (length set) then Some set else None
 
--- The effective alphabet: the permitted alphabet where it takes effect, else all characters of the
+-- The effective alphabet: the permitted alphabet where it takes effect, otherwise all characters of the
 -- type.
 abbrev pub counting_set : CharacterSetName → Option (List ℕ) → List ℕ
 counting_set name None = base_set name
@@ -64,34 +64,34 @@ alphabet_on name kept aligned =
 abbrev pub effective : CharacterSetName → Option (List ℕ) → Bool → Alphabet
 effective name permitted aligned = alphabet_on name (kept_set name permitted aligned) aligned
 
--- k is a code of the character c: in an indexed alphabet a place of it, else c itself, where it is
+-- k is a code of the character c: in an indexed alphabet an index of it, otherwise c itself, where it is
 -- in the set
 abbrev pub IsCode : Alphabet → ℕ → ℕ → Type 0
 IsCode alphabet c k =
     MatchBool alphabet.indexed (slice_get alphabet.characters k ≡ Some c)
     ((has_character alphabet.characters c ≡ true) × (k ≡ c))
 
--- how an alphabet refuses a character
+-- the error of an alphabet for a character
 abbrev pub missing_from : Origin → ℕ → PermittedAlphabetError
 missing_from Permitted c = CharacterNotFound c
 missing_from (BaseOf name) c = InvalidRestrictedString (own_error name c)
 
--- the refusal of a character without a code
+-- the error of a character without a code
 abbrev pub missing_error : Alphabet → ℕ → PermittedAlphabetError
 missing_error alphabet c = missing_from alphabet.origin c
 
--- the refusal of a number that is no code
+-- the error of a number that is no code
 abbrev pub uncoded_error : Alphabet → ℕ → PermittedAlphabetError
 uncoded_error alphabet k =
     if alphabet.indexed then IndexNotFound k else missing_from alphabet.origin k
 
--- the result is a code of the character, which fits the width, or its refusal where it has none
+-- the result is a code of the character, which fits the width, or its error where it has none
 abbrev pub Encodes : Alphabet → ℕ → Result ℕ PermittedAlphabetError → Type 0
 Encodes alphabet c result =
     MatchResult result (λ k. IsCode alphabet c k × (k < 2 ^ alphabet.width))
     (λ e. (e ≡ missing_error alphabet c) × ((k : ℕ) → ¬ (IsCode alphabet c k)))
 
--- the result is the character of the code, or the code's refusal where it has none
+-- the result is the character of the code, or the code's error where it has none
 abbrev pub Decodes : Alphabet → ℕ → Result ℕ PermittedAlphabetError → Type 0
 Decodes alphabet k result =
     MatchResult result (λ c. IsCode alphabet c k)

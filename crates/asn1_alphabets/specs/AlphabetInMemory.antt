@@ -15,7 +15,7 @@ abbrev pub some_if : {A : Type 0} → Bool → A → Option A
 some_if true value = Some value
 some_if false value = None
 
--- the set that counts, where a permitted set that was kept stands behind a reference
+-- the set that counts, where a permitted set that was kept is borrowed
 abbrev pub set_of : CharacterSetName → Option (Bor (List ℕ)) → List ℕ
 set_of name kept = counting_set name (option_copied kept)
 

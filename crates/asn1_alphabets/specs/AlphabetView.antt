@@ -1,4 +1,4 @@
--- What an alphabet in memory stands for.
+-- The alphabet of a value in memory.
 use Rattle.std.specs.Option.{option_copied}
 use Rattle.asn1_alphabets.specs.Alphabet.{Alphabet, origin_of}
 use Rattle.asn1_alphabets.specs.AlphabetInMemory.{some_if, set_of}

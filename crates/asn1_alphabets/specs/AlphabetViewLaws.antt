@@ -1,4 +1,4 @@
--- Laws of what an alphabet in memory stands for.
+-- Laws of the alphabet of a value in memory.
 use Rattle.std.proofs.Common.{ℕ, ◌^◌, ◌<◌}
 use Rattle.asn1_alphabets.specs.Alphabet.{IsCode}
 use Rattle.asn1_alphabets.specs.AlphabetView.{alphabet_of}

@@ -1,4 +1,4 @@
--- What an effective set in memory stands for.
+-- The effective set of a value in memory.
 use Rattle.std.specs.Prelude.{ℕ, List, Option, Some, None}
 use Rattle.std.specs.Borrow.{Bor}
 use Rattle.asn1_characters.specs.declared.character_set.CharacterSetName.{CharacterSetName}
@@ -16,6 +16,6 @@ abbrev pub permitted_of : EffectiveSet → Option (Bor (List ℕ))
 permitted_of (Base name) = None
 permitted_of (Permitted name set) = Some set
 
--- the characters of an effective set: those of the permitted set, or else those of the string
+-- the characters of an effective set: those of the permitted set, or otherwise those of the string
 abbrev pub characters_of : EffectiveSet → List ℕ
 characters_of effective = set_of (name_of effective) (permitted_of effective)

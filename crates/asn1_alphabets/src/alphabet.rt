@@ -54,7 +54,7 @@ impl<'s> CharacterAlphabet<'s> {
     ghost use Rattle.asn1_alphabets.specs.EffectiveSets.{name_of, permitted_of, characters_of};
 
     /// The alphabet of the string `S` with a permitted set. The permitted set is effective if `S`
-    /// is written by places or needs more bits than the set does; else the base set is. An
+    /// is written by places or needs more bits than the set does; otherwise the base set is. An
     /// effective permitted set may hold characters that the base set lacks. The permitted set has
     /// at most 2^32 characters.
     #[inline(always)]
@@ -173,8 +173,8 @@ impl<'s> CharacterAlphabet<'s> {
         }
     }
 
-    /// The character of the code. A place past the set is `IndexNotFound`; a value that is not in
-    /// the set is refused as by `encode`.
+    /// Returns the character of the code: `IndexNotFound` for an index that exceeds the set, and
+    /// the error of `encode` for a value that is not in the set.
     #[inline(always)]
     pub fn decode(&self, code: u32) -> Result<u32, PermittedAlphabetError>
         ensures character { Decodes (alphabet_of self.now) code result }
@@ -298,7 +298,8 @@ impl<'s> CharacterAlphabet<'s> {
         self.contains_by_looks(character, probes)
     }
 
-    /// Whether the set has the character: by looks at a permitted set, else as its base set says.
+    /// Returns whether the set has the character: by looks at a permitted set, otherwise as its
+    /// base set says.
     #[inline(never)]
     fn contains_by_looks(&self, character: u32, probes: &mut Turns) -> bool
         ensures value { result ≡ has_character (alphabet_of self.now).characters character }
@@ -347,8 +348,8 @@ impl<'s> CharacterAlphabet<'s> {
     }
 }
 
-/// A place of the character: by halves where the list is long and ascending, else one by one. It
-/// sees the list through looks alone.
+/// A place of the character: by halves where the list is long and ascending, otherwise one by one.
+/// It sees the list through looks alone.
 #[inline(always)]
 fn place_among<L: Entries>(
     entries: &mut L,

@@ -1,4 +1,4 @@
-//! The effective set of an alphabet: the permitted set where it is kept, and else the base set.
+//! The effective set of an alphabet: the permitted set if it is kept, otherwise the base set.
 ghost use Rattle.std.specs.Prelude.{◌≡◌, ◌≤◌, ◌^◌, true, false, IsNone, length, is_some, Some};
 ghost use Rattle.std.specs.Option.{ForSome, option_copied};
 ghost use Rattle.std.specs.List.Sorted.{IsNonDecreasing};

@@ -2,9 +2,9 @@
 //! of `asn1_characters`.
 //!
 //! An alphabet is of an effective set: the permitted set of a string, where X.691 30.5 says that it
-//! takes effect, and else the string's base set. It gives each character of that set a code, which
-//! is the character's place in the set or its value. A place in a long ascending set is found by
-//! halves. No call takes memory.
+//! takes effect, and otherwise the string's base set. It gives each character of that set a code,
+//! which is the character's place in the set or its value. A place in a long ascending set is found
+//! by halves. No call takes memory.
 #![tactic(auto)]
 
 mod alphabet;

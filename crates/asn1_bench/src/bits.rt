@@ -100,7 +100,7 @@ impl Row for Numbers {
     }
 }
 
-/// Numbers of 32 bits appended behind three bits.
+/// Numbers of 32 bits appended after three bits.
 #[derive(Drop)]
 pub struct Appended {}
 

@@ -13,7 +13,7 @@ const LETTERS: [u32; 32] = [
     88, 89, 90, 91, 92, 93, 94, 95,
 ];
 
-/// The fields behind three bits.
+/// The fields after three bits.
 fn write_behind(alloc: Global, fields: &[Field<'_, '_>]) -> Result<BitBuffer, AllocError> {
     let mut buffer = BitBuffer::new(alloc);
     buffer.push_bits(5, 3)?;
@@ -23,7 +23,7 @@ fn write_behind(alloc: Global, fields: &[Field<'_, '_>]) -> Result<BitBuffer, Al
     }
 }
 
-/// How many fields of these shapes stand behind three bits, or 0 where they are not read.
+/// How many fields of these shapes stand after three bits, or 0 where they are not read.
 fn read_behind(alloc: Global, buffer: &BitBuffer, shapes: &[Shape<'_>]) -> u64 {
     let mut reader = BitReader::new(buffer.as_bitstr());
     let _ = reader.split(3);
@@ -33,7 +33,7 @@ fn read_behind(alloc: Global, buffer: &BitBuffer, shapes: &[Shape<'_>]) -> u64 {
     }
 }
 
-/// Writes the fields behind three bits and reads them from there: so many bits and fields.
+/// Writes the fields after three bits and reads them from there: so many bits and fields.
 fn there_and_back(
     alloc: Global,
     fields: &[Field<'_, '_>],

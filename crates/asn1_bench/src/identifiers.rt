@@ -95,7 +95,7 @@ impl Row for Read {
     }
 }
 
-/// Contents written behind nothing.
+/// Contents written after nothing.
 #[derive(Drop)]
 pub struct Written {
     size: Size,

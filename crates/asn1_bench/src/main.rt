@@ -6,7 +6,6 @@ mod alphabets;
 mod bits;
 mod certificates;
 mod fields;
-mod formats;
 mod identifiers;
 mod numbers;
 mod records;
@@ -24,7 +23,6 @@ use crate::records::Record;
 use crate::row::show;
 use crate::schema::Decoded;
 use crate::strings::{Bits, Kind, Text};
-use asn1_formats::Format;
 use std::env;
 
 fn main(rt: HostRuntime) -> anyhow::Result<()> {
@@ -37,7 +35,6 @@ fn main(rt: HostRuntime) -> anyhow::Result<()> {
     show_alphabets(&rt, rounds)?;
     show_strings(&rt, rounds)?;
     show_fields(&rt, rounds)?;
-    show_formats(&rt, rounds)?;
     show(&rt, Ok(Decoded::numbers()), rounds)?;
     show(&rt, Ok(Decoded::letters()), rounds)?;
     show_records(&rt, rounds)?;
@@ -118,46 +115,4 @@ fn show_fields(rt: &HostRuntime, rounds: u32) -> anyhow::Result<()> {
     show(rt, Fields::integers(alloc), rounds)?;
     show(rt, Fields::characters(alloc), rounds)?;
     show(rt, Fields::message(alloc), rounds)
-}
-
-/// The rows of formats.
-fn show_formats(rt: &HostRuntime, rounds: u32) -> anyhow::Result<()> {
-    let (four, values) = (formats::numbers(), (5, (4000, (123456, 99))));
-    let read = "four numbers read by a format";
-    let written = "four numbers written by a format";
-    show_format(rt, four, values, read, written, rounds)?;
-    let read = "64 characters read as a string";
-    let written = "64 characters written as a string";
-    if let Some(string) = formats::string() {
-        let letters = formats::letters(rt.alloc())?;
-        show_format(rt, string, letters, read, written, rounds)?;
-    }
-    let read = "64 characters read as a list";
-    let written = "64 characters written as a list";
-    if let Some(list) = formats::list() {
-        let letters = formats::letters(rt.alloc())?;
-        show_format(rt, list, letters, read, written, rounds)?;
-    }
-    Ok(())
-}
-
-/// The rows of a value that is read and written by its format.
-fn show_format<F: Format + Copy + Drop>(
-    rt: &HostRuntime,
-    format: F,
-    value: F::Value,
-    read: &'static str,
-    written: &'static str,
-    rounds: u32,
-) -> anyhow::Result<()> {
-    show(
-        rt,
-        formats::Read::new(rt.alloc(), format, &value, read),
-        rounds,
-    )?;
-    show(
-        rt,
-        Ok(formats::Written::new(format, value, written)),
-        rounds,
-    )
 }

@@ -1,4 +1,4 @@
-//! Values decoded by a schema that is data, as those that `formats` reads.
+//! Values decoded by a schema that is data.
 
 use crate::row::{Row, Work};
 use asn1_schema::{Bounds, Length, Member, Node, Part, Presence, Range, Rows, Span, Tables};

@@ -64,7 +64,7 @@ pub filled-none : IsFilled [] 0 × (bits_shown [] 0 ≡ [])
 unfolding bits
 filled-none = filled_by [] 0 [] 0 refl refl (omega arith) (omega arith)
 
--- a list and the first of the zeros behind it
+-- a list and the first of the zeros after it
 pub take-zeros : (list : List Bool) (n k z : ℕ) → length list ≡ n → k ≤ z
     → take (n + k) (list ++ replicate z false) ≡ list ++ replicate k false
 take-zeros list n k z e h =
@@ -109,7 +109,7 @@ filled-front octets len f =
     (omega (arith, length-take (octets_for len) octets, f.count))
     (omega (arith, length-take (octets_for len) octets, f.count))
 
--- octets of zeros behind them show that many zeros more
+-- octets of zeros after them show that many zeros more
 pub filled-grow : (octets : List ℕ) (len d k : ℕ) → IsFilled octets len → octets_for (len + d) ≤ length octets + k
     → length octets + k ≤ (len + d) / 8 + 39
     → IsFilled (octets ++ replicate k 0) (len + d)
@@ -173,7 +173,7 @@ filled-grow_to octets after len d count f n e =
     rw e
     (filled-grow octets len d (count - length octets) f (omega (arith, n)) (omega (arith, n, f.few)))
 
--- octets of zeros behind them show the same
+-- octets of zeros after them show the same
 pub filled-ready : (octets after : List ℕ) (len n count : ℕ) → IsFilled octets len → n ≡ length octets → n ≤ count
     → count ≤ len / 8 + 39
     → after ≡ take count octets ++ replicate (count - n) 0
@@ -222,7 +222,7 @@ cleared-more list from k lt =
     ∙ ap (λ (l : List Bool). l ++ drop (from + (k + 1)) list)
     (append_assoc front zeros (false ∷ []) ∙ ap (λ (l : List Bool). front ++ l) (replicate_more k false))
 
--- octets that were cut, and cleared behind the length
+-- octets that were cut, and cleared after the length
 pub filled-cut : (octets cut after : List ℕ) (old len : ℕ) → IsFilled octets old → len ≤ old
     → cut ≡ take (octets_for len) octets
     → bits after ≡ take len (bits cut) ++ replicate (8 * length cut - len) false → length after ≡ length cut
@@ -300,7 +300,7 @@ whole-front octets front len f whole e =
       ),
     )
 
--- octets behind whole octets
+-- octets after whole octets
 pub whole-filled : (items src : List ℕ) (len : ℕ) → length items * 8 ≡ len
     → IsFilled (items ++ src) (len + 8 * length src)
     × (bits_shown (items ++ src) (len + 8 * length src) ≡ bits_shown items len ++ bits src)

@@ -13,7 +13,7 @@ pub fed-none : (list : List Bool) → words_fed list 0 ≡ []
 unfolding words_fed
 fed-none list = refl
 
--- the next word of 64 bits, fed behind those before it
+-- the next word of 64 bits, fed after those before it
 pub fed-more : (list : List Bool) (n word : ℕ) → word ≡ number (take 64 (drop (64 * n) list))
     → words_fed list (n + 1) ≡ words_fed list n ++ fed.le_bytes 8 word ∷ []
 unfolding words_fed

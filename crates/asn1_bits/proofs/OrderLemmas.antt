@@ -10,7 +10,7 @@ use Rattle.std.proofs.lemmas.Bool.{le-ltb, lt-ltb, eq-eqb, ne_eqb}
 use Rattle.asn1_bits.specs.Bits.{number}
 use Rattle.asn1_bits.specs.OrderLaws.{by_number, by_fronts, same_front}
 
--- what stands behind fronts that are the same decides
+-- what is after fronts that are the same decides
 behind : (xs ys : List Bool) (n : ℕ) → take n xs ≡ take n ys
     → slice_cmp bool_cmp (drop n xs) (drop n ys) ≡ slice_cmp bool_cmp xs ys
 behind xs ys n e =
@@ -38,7 +38,7 @@ decides m n Less p h t = refl
 decides m n Equal p h t = absurd (h t)
 decides m n Greater p h t = refl
 
--- words that differ behind fronts that are the same decide the order of the lists
+-- words that differ after fronts that are the same decide the order of the lists
 pub differ : (xs ys : List Bool) (i n a b : ℕ) → take i xs ≡ take i ys → n ≤ length (drop i xs) → n ≤ length (drop i ys)
     → a ≡ number (take n (drop i xs)) → b ≡ number (take n (drop i ys)) → a ≢ b → nat_cmp a b ≡ slice_cmp bool_cmp xs ys
 differ xs ys i n a b e h k f g d =

@@ -33,7 +33,7 @@ overwritten-ored old src place n e h =
     (ap (λ (j : ℕ). ored (front ++ zeros) j src) (sym at) ∙ ored-zeros front src n e)
     ∙ append_assoc front src back
 
--- zeros behind zeros
+-- zeros after zeros
 pub zeros-more : (old now new : List Bool) (place next m n all : ℕ) → now ≡ overwritten old place (replicate m false)
     → new ≡ overwritten now next (replicate n false)
     → next ≡ place + m → all ≡ m + n → place ≤ length old → new ≡ overwritten old place (replicate all false)

@@ -37,7 +37,7 @@ moved-below size n width shift fits small =
     let within : n * 2 ^ rest < 2 ^ size = omega (arith, below, pow_mono {i = size - shift} {j = size} (omega arith)) in
     rw (mod-eq_of_lt within) below
 
--- the place of the octet behind the one where zeros begin
+-- the place of the octet after the one where zeros begin
 pub zeros-behind_begun : (place : ℕ) (list : List Bool) → IsZeroFrom place list → 8 * (place / 8) + 8 ≤ length list
     → IsZeroFrom (8 * (place / 8) + 8) list
 zeros-behind_begun place list z h =
@@ -76,7 +76,7 @@ put-eight old new octets q word e is z room =
     ∙ ap (λ (k : ℕ). take (8 * q) (bits old) ++ (digits word 64 ++ drop (8 * q + k) (bits old))) (sym n)
     ∙ room-over (bits old) (digits word 64) (8 * q) z (omega (arith, n, length-bits old, room))
 
--- a number's digits that are ORed in by two pieces, one behind the other
+-- a number's digits that are ORed in by two pieces, one after the other
 pub placed-two : (old one two : List Bool) (place next n front back width : ℕ)
     → one ≡ ored old place (digits (n / 2 ^ back) front) → two ≡ ored one next (digits n back)
     → next ≡ place + front → width ≡ front + back → next + back ≤ length old
@@ -88,7 +88,7 @@ placed-two old one two place next n front back width e f at is room =
     (omega (arith, at, length-digits (n / 2 ^ back) front)) (omega (arith, length-digits n back, room))
     ∙ ap (ored old place) (sym (digits-append n front back) ∙ ap (digits n) (sym is))
 
--- zeros are left behind what was written over their front
+-- zeros are left after what was written over their front
 pub put-left : (old new src : List Bool) (place next width : ℕ) → IsZeroFrom place old → new ≡ ored old place src
     → length src ≡ width → next ≡ place + width → next ≤ length old
     → IsZeroFrom next new
@@ -106,7 +106,7 @@ digits-lowest n width h =
     ∙ ap (drop spare) (digits-mod n 64)
     ∙ ap (λ (k : ℕ). drop spare (digits n k)) s ∙ low-part n spare width
 
--- a buffer's octets after bits were ORed into the zeros behind what it shows
+-- a buffer's octets after bits were ORed into the zeros after what it shows
 pub filled-pushed : (octets after : List ℕ) (len width : ℕ) (src : List Bool) → IsFilled octets len
     → bits after ≡ ored (bits octets) len src → length src ≡ width → len + width ≤ 8 * length octets
     → IsFilled after (len + width) × (bits_shown after (len + width) ≡ bits_shown octets len ++ src)

@@ -154,7 +154,7 @@ read-top list size width word h small e =
     ∙ ap (take width) e ∙ take-take width size list h in
     sym (mod-eq_of_lt less) ∙ sym (number-digits n width) ∙ ap number front
 
--- two words, one behind the other
+-- two words, one after the other
 pub pair-digits : (list : List Bool) (a b : ℕ) → a < 2 ^ 64 → b < 2 ^ 64 → digits a 64 ≡ take 64 list
     → digits b 64 ≡ take 64 (drop 64 list)
     → digits (bit_or (a * 2 ^ 64 % 2 ^ 128) b) 128 ≡ take 128 list
@@ -195,7 +195,7 @@ read-two list place last width high low more most l hs ls a b =
     ∙ ap (λ (m : ℕ). m * 2 ^ 64 + number (digits low 64)) (number-digits g top ∙ mod-eq_of_lt less)
     ∙ ap (λ (m : ℕ). g * 2 ^ 64 + m) (number-digits low 64 ∙ omega (arith, ls)))
 
--- bits of a view from one of them on stand in its storage
+-- bits of a view from one of them on are in its storage
 pub cut-storage : (v : View) (at n : ℕ) → at + n ≤ v.len → take n (drop (v.first + at) (bits v.storage)) ≡ take n (drop at (list_of v))
 unfolding list_of
 cut-storage v at n h = list_of-part v at n h

@@ -6,7 +6,7 @@ use Rattle.asn1_bits.specs.Bits.{ored, IsZeroFrom}
 use Rattle.asn1_bits.proofs.OredLemmas.{length-ored, ored-append_left, ored-zeros}
 use Rattle.asn1_bits.proofs.ZeroLemmas.{zeros_behind, zero_from}
 
--- bits ORed into room stand behind those before them, and zeros are left
+-- bits ORed into room are after those before them, and zeros are left
 pub ored-room : (list src : List Bool) (place : ℕ) → IsZeroFrom place list → place + length src ≤ length list
     → ored list place src ≡ (take place list ++ src) ++ replicate (length list - (place + length src)) false
 ored-room list src place z h =

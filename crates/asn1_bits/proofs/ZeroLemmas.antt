@@ -8,7 +8,7 @@ pub zeros_behind : (place : ℕ) (list : List Bool) → IsZeroFrom place list
     → list ≡ take place list ++ replicate (length list - place) false
 zeros_behind place list z = sym (take-append-drop place list) ∙ ap (λ (l : List Bool). take place list ++ l) z.zero
 
--- what stands behind a place is zeros
+-- what is after a place is zeros
 pub zero_from : (place : ℕ) (list : List Bool) → place ≤ length list
     → list ≡ take place list ++ replicate (length list - place) false → IsZeroFrom place list
 zero_from place list h e = record {
@@ -18,7 +18,7 @@ zero_from place list h e = record {
       (omega (arith, length-take place list));
 }
 
--- and so are those behind a later place
+-- and so are those after a later place
 pub zeros-later : (place next : ℕ) (list : List Bool) → IsZeroFrom place list → place ≤ next → next ≤ length list
     → IsZeroFrom next list
 zeros-later place next list z from h = record {

@@ -2,7 +2,7 @@
 use Rattle.std.specs.Prelude.{◌≡◌, ℕ, ◌-◌, Bool, false, List, ◌++◌, take, length, replicate}
 use Rattle.asn1_bits.specs.declared.bit_appender.BitAppender.{BitAppender}
 
--- the old bits of the buffer, and what was pushed behind them
+-- the old bits of the buffer, and what was pushed after them
 abbrev pub bits_written : BitAppender → List Bool
 bits_written a = take a.position a.target.buffer.now
 

@@ -1,4 +1,4 @@
--- Lists of bits: what numbers and octets spell. A bit is a truth value.
+-- Lists of bits: what numbers and octets encode. A bit is a truth value.
 use Rattle.std.specs.Prelude.{◌≡◌, ℕ, zero, suc, ◌+◌, ◌-◌, ◌*◌, ◌/◌, ◌%◌, ◌≤◌, Bool, false, ◌||◌, ◌&&◌, if◌then◌else◌, ◌==◌, nat_le, List, [], ◌∷◌, ◌++◌, take, drop, map, length, replicate, slice_index_or}
 use Rattle.std.specs.List.{flat_map, fold, range_with_len}
 use Rattle.std.specs.Int.{div_ceil}
@@ -23,7 +23,7 @@ bits octets = flat_map (λ octet. digits octet 8) octets
 abbrev pub octets_for : ℕ → ℕ
 octets_for len = div_ceil len 8
 
--- that many bits behind a list of `len` bits take no octet more
+-- that many bits after a list of `len` bits take no octet more
 abbrev pub AddsNoOctet : ℕ → ℕ → Type 0
 AddsNoOctet len more = octets_for (len + more) ≡ octets_for len
 

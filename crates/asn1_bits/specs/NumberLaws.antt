@@ -11,7 +11,7 @@ use Rattle.std.proofs.lemmas.Grind.{fold-append}
 use Rattle.asn1_bits.specs.Bits.{is_odd, digits, number, bits}
 use Rattle.asn1_bits.specs.DigitLaws.{length-digits, get_or-digits}
 
--- one bit more behind a list doubles its number
+-- one bit more after a list doubles its number
 pub number-push : (list : List Bool) (bit : Bool) → number (list ++ bit ∷ []) ≡ 2 * number list + cond bit 1 0
 unfolding number
 number-push list bit = fold-append (λ n b. 2 * n + cond b 1 0) 0 list (bit ∷ [])

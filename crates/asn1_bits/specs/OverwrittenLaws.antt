@@ -1,4 +1,4 @@
--- Lists that were written over another, one behind the other.
+-- Lists that were written over another, one after the other.
 use Rattle.std.proofs.Common.{◌≡◌, ℕ, ◌+◌, ◌≤◌, Bool, List, [], ◌++◌, length, take, drop, sym, ap, ◌∙◌, append_assoc, arith}
 use Rattle.std.proofs.Math.Seq.{drop-append-add}
 use Rattle.std.proofs.lemmas.List.{length-append, length-take, length-drop, take-append-drop, take_at, drop-drop}
@@ -25,7 +25,7 @@ overwritten-none old place =
     (let e : place + 0 ≡ place = omega arith in ap (λ (k : ℕ). take place old ++ drop k old) e)
     ∙ take-append-drop place old
 
--- two lists, one behind the other, are their concatenation
+-- two lists, one after the other, are their concatenation
 pub overwritten-append : (old : List Bool) (place next : ℕ) (xs ys : List Bool) → next ≡ place + length xs
     → place ≤ length old
     → overwritten (overwritten old place xs) next ys ≡ overwritten old place (xs ++ ys)

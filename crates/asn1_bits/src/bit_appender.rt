@@ -32,7 +32,7 @@ impl BitBuffer {
     /// wanting, the bits stay. The new length fits `usize`.
     pub fn appender(&mut self, additional: usize) -> Result<BitAppender<'_>, AllocError>
         requires { length self.old + additional < 2 ^ 64 }
-        // Where memory is wanting, the buffer is as before; else it ends as the appender leaves it.
+        // If out of memory, the buffer is unchanged; otherwise it ends as the appender leaves it.
         ensures* refused { sem 𝓛
             (RestsIfErr the_row self.entry lender_of result (λ bits. bits ≡ self.old)) }
         ensures lender { IfOk result (λ a. lender_of a ≡ self.entry.ghost_name) }

@@ -18,7 +18,7 @@ use std::marker::Model;
 /// How many zero octets `push_bits` adds at a time, so that later pushes need no growth.
 const READY: usize = 32;
 
-/// A growable list of bits. The vector may be longer than the list: every bit behind the list is
+/// A growable list of bits. The vector may be longer than the list: every bit after the list is
 /// zero, so a short number is stored as one word. Two buffers are equal if their lists are.
 #[derive(Debug, Drop)]
 pub struct BitBuffer {
@@ -84,10 +84,10 @@ impl BitBuffer {
         self.len = len;
     }
 
-    /// Copies the buffer. Refused only for want of memory.
+    /// Copies the buffer. Returns an error only if out of memory.
     pub fn clone(&self) -> Result<BitBuffer, AllocError>
         ensures list { IfOk result (λ b. b ≡ self.now) }
-        // Of no bits it asks for no memory.
+        // For no bits it allocates nothing.
         ensures free { self.now ≡ [] → IsOk result }
     {
         if self.len() == 0 {
@@ -129,11 +129,11 @@ impl BitBuffer {
         set_bit(self.bytes.as_mut_slice(), index, bit);
     }
 
-    /// Makes room for `additional` more octets, or is refused for want of memory. The bits stay.
+    /// Makes room for `additional` more octets, or returns an error if out of memory.
     /// Appending that many octets then allocates nothing; no clause says so.
     pub fn reserve_bytes(&mut self, additional: usize) -> Result<(), AllocError>
         ensures same { self.new ≡ self.old }
-        // For no octet it asks for no memory.
+        // For no octet it allocates nothing.
         ensures free { additional ≡ 0 → IsOk result }
     {
         if additional == 0 {
@@ -143,7 +143,7 @@ impl BitBuffer {
     }
 
     /// Appends copies of `bit` until there are `new_len` bits. `new_len` is at least the length.
-    /// Refused for want of memory, and then the bits stay.
+    /// Returns an error if out of memory; the bits are unchanged then.
     pub fn resize(&mut self, new_len: usize, bit: bool) -> Result<(), AllocError>
         requires { length self.old ≤ new_len }
         ensures ok { OnOk result

@@ -62,7 +62,7 @@ impl<'a> BitReader<'a> {
     }
 
     /// The octets that are left, copied only where they do not lie on octet boundaries of the
-    /// storage. What is left is whole octets. Refused for want of memory alone.
+    /// storage. What is left is whole octets. Returns an error only if out of memory.
     pub fn octets(&self, alloc: Global) -> Result<Octets<'a>, AllocError>
         requires { (view_left self.now).len % 8 ≡ 0 }
         ensures bits { IfOk result (λ o. bits (octets_in o) ≡ bits_left self.now) }

@@ -201,8 +201,8 @@ impl<'a> BitStr<'a> {
         }
     }
 
-    /// Appends the octets to the vector. Refused for want of memory, and then the vector stays as
-    /// it was.
+    /// Appends the octets to the vector. Returns an error if out of memory; the vector is unchanged
+    /// then.
     pub(crate) fn push_octets_to(&self, octets: &mut Vec<u8>) -> Result<(), AllocError>
         requires { (view_of self.now).len % 8 ≡ 0 }
         ensures ok { OnOk result

@@ -27,7 +27,7 @@ impl Model for BitString {
 }
 
 impl BitString {
-    /// No bits. It asks for no memory.
+    /// Returns no bits. It allocates nothing.
     pub fn new(alloc: Global) -> BitString
         ensures { result ≡ [] }
     {
@@ -96,10 +96,10 @@ impl BitString {
         buffer.into_vec()
     }
 
-    /// A copy. It is refused for want of memory alone.
+    /// A copy. Returns an error only if out of memory.
     pub fn clone(&self) -> Result<BitString, AllocError>
         ensures list { IfOk result (λ s. s ≡ self.now) }
-        // Of no bits it asks for no memory.
+        // For no bits it allocates nothing.
         ensures free { self.now ≡ [] → IsOk result }
     {
         Ok(BitString {
@@ -121,11 +121,11 @@ pub fn extend_bitstring(dst: &mut BitString, src: BitStr<'_>) -> Result<(), Allo
     dst.buffer.extend_from_bitslice(src)
 }
 
-/// A copy of the view. Refused for want of memory alone.
+/// A copy of the view. Returns an error only if out of memory.
 pub fn to_bitstring(alloc: Global, src: BitStr<'_>) -> Result<BitString, AllocError>
     ensures list { IfOk result (λ s. s ≡ bits_of src.entry) }
     ensures len { IfOk result (λ s. length s ≡ (view_of src.entry).len) }
-    // Of no bits it asks for no memory.
+    // For no bits it allocates nothing.
     ensures free { (view_of src.entry).len ≡ 0 → IsOk result }
 {
     let mut bits = BitString::new(alloc);

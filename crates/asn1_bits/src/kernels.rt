@@ -337,7 +337,7 @@ pub fn aligned_octets(src: BitStr<'_>) -> Option<&[u8]>
     src.aligned()
 }
 
-/// Appends the octets of the view to the vector. Where memory is wanting, the vector is as before.
+/// Appends the octets of the view to the vector. If out of memory, the vector is unchanged.
 /// The view is whole octets.
 pub fn extend_vec_from_bitslice(dst: &mut Vec<u8>, src: BitStr<'_>) -> Result<(), AllocError>
     requires { (view_of src).len % 8 ≡ 0 }

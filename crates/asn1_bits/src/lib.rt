@@ -1,8 +1,8 @@
 //! Lists of bits: views of octets, buffers that grow, readers, and the kernels below them.
 //!
-//! A bit is a truth value, and octets spell their bits most significant first (X.690 8.1.3, X.691
-//! 11). Contracts model every type as a list of bits. A call that fails for lack of memory changes
-//! nothing.
+//! A bit is a truth value, and octets hold their bits most significant first (X.690 8.1.3, X.691
+//! 11). Contracts model every type as a list of bits. A call that fails because it is out of memory
+//! changes nothing.
 #![tactic(auto)]
 
 mod bit_appender;

@@ -3,7 +3,7 @@
 ghost use Rattle.std.specs.Prelude.{◌≡◌, ◌<◌, All};
 ghost use Rattle.asn1_bits.specs.Octets.{octets_in};
 
-/// Octets that were read: borrowed from the storage if they lie on its octet boundaries, else
+/// Octets that were read: borrowed from the storage if they are on its octet boundaries, otherwise
 /// copied. Two are equal if they hold the same octets, borrowed or copied.
 #[derive(Debug, Drop)]
 pub enum Octets<'a> {

@@ -79,7 +79,7 @@ fn overwrite_digits(
 }
 
 /// Clears the `count` bits from bit `position` on: those before the first whole octet, whole
-/// octets, and those behind the last.
+/// octets, and those after the last.
 pub(crate) fn clear_bits(dst: &mut [u8], position: usize, count: usize)
     requires room { position + count ≤ 8 * length dst.old }
     requires fits { position + count < 2 ^ 64 }

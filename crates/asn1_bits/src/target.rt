@@ -1,6 +1,6 @@
-//! Octets that words are stored in. The stores themselves stand in `stores`, private to this
-//! module: a body elsewhere that holds a `Target` stores by its methods alone, which count each
-//! word and take its turn.
+//! Octets that words are stored in. The stores themselves are in `stores`, private to this module:
+//! a body elsewhere that holds a `Target` stores by its methods alone, which count each word and
+//! take its turn.
 
 ghost use Rattle.std.specs.Prelude.{◌≡◌, ◌+◌, ◌-◌, ◌*◌, ◌++◌, ◌/◌, ◌%◌, ◌≤◌, ◌<◌, ◌^◌, length, take, drop};
 ghost use Rattle.std.specs.Int.{div_ceil};
@@ -45,7 +45,7 @@ impl<'a> Target<'a> {
         }
     }
 
-    /// Takes the octets and their count out, and leaves none behind. A loop over a target of its
+    /// Takes the octets and their count out, and leaves none after. A loop over a target of its
     /// own keeps the place of the octets in registers; through a reference it is loaded for each
     /// word, since a store might have changed it.
     #[inline(always)]

@@ -45,7 +45,7 @@ pub(crate) fn whole_word(octets: &[u8], first: usize, shift: usize) -> u64
     }
 }
 
-/// The 64 digits from digit `shift` on of two words, one behind the other.
+/// The 64 digits from digit `shift` on of two words, one after the other.
 #[inline(always)]
 fn digits_from(high: u64, low: u64, shift: usize) -> u64
     requires { shift < 8 }
@@ -351,7 +351,7 @@ fn or_joined_words(
     }
 }
 
-/// How many of a word's 64 digits are left behind the first `shift`.
+/// How many of a word's 64 digits are left after the first `shift`.
 // Not inlined, to hide the difference from LLVM. It would make one shift of 128 bits (`shld`) of the
 // two shifts of a word, and such shifts do not vectorize.
 #[inline(never)]

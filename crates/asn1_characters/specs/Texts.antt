@@ -46,7 +46,7 @@ restricted_text (strings.InvalidPrintableString e) = character_text Printable e.
 restricted_text (strings.InvalidTeletexString e) = character_text Teletex e.character
 restricted_text (strings.InvalidVisibleString e) = character_text Visible e.character
 
--- the text of a refusal
+-- the text of an error
 abbrev pub alphabet_error_text : PermittedAlphabetError → List ℕ
 alphabet_error_text (Other name) =
     codes "error converting to string: Character set width set to zero when parsing string " ++

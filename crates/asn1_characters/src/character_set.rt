@@ -8,7 +8,7 @@ ghost use Rattle.asn1_characters.specs.declared.character_set.CharacterSetName.T
 use crate::character_words::CharacterWords;
 use std::fmt;
 
-/// The name of one of the eight strings. `Display` writes the string's name as X.680 spells it.
+/// The name of one of the eight strings. `Display` writes the string's name as X.680 has it.
 #[derive(Clone, Copy, Debug, PartialEq, Eq, PartialOrd, Ord, Hash)]
 pub enum CharacterSetName {
     /// `BmpString`.
@@ -115,8 +115,8 @@ impl CharacterSetName {
         matches!(self, CharacterSetName::Numeric)
     }
 
-    /// Whether the set has the character: for `BmpString` by its range, else by one look at four
-    /// words.
+    /// Whether the set has the character: for `BmpString` by its range, otherwise by one look at
+    /// four words.
     pub fn contains(self, character: u32) -> bool
         ensures { result ≡ has_character (base_set self) character }
     {
@@ -126,7 +126,8 @@ impl CharacterSetName {
         }
     }
 
-    /// Whether the set has the character that an octet spells: by ranges, without a branch.
+    /// Returns whether the set has the character that an octet encodes: by ranges, without a
+    /// branch.
     pub fn has_octet(self, octet: u8) -> bool
         ensures { result ≡ has_character (base_set self) octet }
     {

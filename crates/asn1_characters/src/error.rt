@@ -328,7 +328,7 @@ pub enum PermittedAlphabetError {
     CharacterNotFound { character: u32 },
     /// The string may not hold a character.
     InvalidRestrictedString { source: InvalidRestrictedString },
-    /// Memory was refused.
+    /// Out of memory.
     Memory,
 }
 

@@ -1,5 +1,5 @@
-//! Octet strings, the base sets of the eight restricted character strings of ASN.1, and how
-//! characters are refused.
+//! Octet strings, the base sets of the eight restricted character strings of ASN.1, and the errors
+//! for characters that are not in them.
 //!
 //! An octet string is a list of octets (X.680 23), shared or in place. A base set is the list of
 //! characters that one of the eight strings may hold (X.680 41), by its ranges; one look at four

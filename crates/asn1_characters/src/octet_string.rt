@@ -54,7 +54,7 @@ impl OctetString {
         OctetString::from_slice(alloc, &octets)
     }
 
-    /// The vector's octets, without a copy. If memory for the reference count is refused, the
+    /// Returns the vector's octets, without a copy. If out of memory for the reference count, the
     /// vector is returned. An empty vector never fails.
     pub fn from_vec(octets: Vec<u8>) -> Result<OctetString, Vec<u8>>
         ensures octets { IfOk result (λ s. s ≡ octets.items) }
@@ -87,8 +87,7 @@ impl OctetString {
         })
     }
 
-    /// The octets as `Bytes`. They stand in one already, so the string never comes back as an
-    /// `Err`.
+    /// Returns the octets as `Bytes`. They are in one already, so this never fails.
     pub fn into_bytes(self, _alloc: Global) -> Result<Bytes, OctetString>
         ensures { IsOkAnd result (λ b. b ≡ self) }
     {

@@ -1,5 +1,5 @@
-//! Bit fields between lines of text: reads the fields that the first line asks for from the octets
-//! of the second, from the bit that the third names on, and writes them again.
+//! Bit fields between lines of text: reads the fields that the first line names from the octets of
+//! the second, from the bit that the third names on, and writes them again.
 #![tactic(auto)]
 
 #[cfg(test)]

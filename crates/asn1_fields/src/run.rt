@@ -10,8 +10,8 @@ use octet_streams::{StreamError, read_to_end, write_all};
 use std::alloc::Global;
 use std::io::{Read, Write};
 
-/// Reads the input to its end, writes the whole answer at once, and answers the status: 0 for
-/// fields, 1 for a refusal.
+/// Reads the input to its end, writes the whole answer at once, and returns the status: 0 for
+/// fields, 1 for an error.
 pub fn run<R: Read, W: Write>(
     alloc: Global,
     input: &mut R,

@@ -12,7 +12,7 @@ IsSignedKind (SignedOf size) = ⊤
 IsSignedKind (UnsignedOf size) = ⊥
 IsSignedKind Unbounded = ⊤
 
--- the reading of a type's own form: without a sign for the unsigned types, else two's complement
+-- the reading of a type's own form: without a sign for the unsigned types, otherwise two's complement
 abbrev pub own_reading : IntegerKind → List ℕ → Result ℤ IntegerError
 own_reading (SignedOf size) o = signed_reading (SignedOf size) o
 own_reading (UnsignedOf size) o = unsigned_reading (UnsignedOf size) o
@@ -59,7 +59,7 @@ WrapsSum (UnsignedOf size) value a b result =
     IsSomeAnd result (λ x. IsWrapped (UnsignedOf size) (a +ℤ b) (value x))
 WrapsSum Unbounded value a b result = IsChecked Unbounded value a b (a +ℤ b) result
 
--- an `Integer` made of n wants memory: n is a `u128` above `i128::MAX`
+-- an `Integer` made of n allocates: n is a `u128` above `i128::MAX`
 abbrev pub WantsMemory : IntegerKind → ℤ → Type 0
 WantsMemory (SignedOf size) n = ⊥
 WantsMemory (UnsignedOf size) n = pos (2 ^ 127) ≤ℤ n

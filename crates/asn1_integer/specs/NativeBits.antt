@@ -29,7 +29,7 @@ AreBitsOf true n bits = FitsI128 n × (bits ≡ cast_unsigned w128 n)
 AreBitsOf false n bits = n ≡ pos bits
 
 -- The call answers as the table does: where the table has a number, its two's complement in 128
--- bits; where the table refuses, the same refusal.
+-- bits; where the table has an error, the same one.
 abbrev pub ReadsBits : IntegerKind → Result ℕ IntegerError → Result ℤ IntegerError → Type 0
 ReadsBits kind (Ok bits) reading =
     (n : ℤ) × (reading ≡ Ok n) × (bits ≡ cast_unsigned w128 n) × IsInRange kind n

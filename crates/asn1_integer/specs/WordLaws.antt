@@ -44,7 +44,7 @@ number-bits (b ∷ bs) h =
     ∙ ap (λ (k : ℕ). b * k + number (bits bs)) p
     ∙ ap (λ (k : ℕ). b * 256 ^ length bs + k) (number-bits bs h.1)
 
--- the number that a word's lowest bits stand for, of which the first is the sign
+-- the number that a word's lowest bits mean, of which the first is the sign
 pub word_value : (o : List ℕ) (list : List Bool) (word width : ℕ) (n : ℤ) → All (λ octet. octet < 256) o → bits o ≡ list
     → width ≡ length list → word ≡ number (take width list) → 0 < width
     → (word < 2 ^ (width - 1) → n ≡ pos word) → (2 ^ (width - 1) ≤ word → n ≡ pos word -ℤ pos (2 ^ width))

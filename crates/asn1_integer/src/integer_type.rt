@@ -12,9 +12,9 @@ use std::alloc::{AllocError, Global};
 
 /// A type of whole numbers: a native integer type, or `Integer`.
 ///
-/// Octets are most significant first. The readings refuse an empty list, too many octets for the
-/// type and a sign that it does not hold, in the order of the table `signed_reading` and
-/// `unsigned_reading`; want of memory is met by `Integer` alone, outside `i128`.
+/// Octets are most significant first. The readings return an error for an empty list, too many
+/// octets for the type and a sign that it does not hold, in the order of the table `signed_reading`
+/// and `unsigned_reading`; `Integer` alone allocates, outside `i128`.
 pub trait IntegerType {
     /// The type's bits; `u32::MAX` for `Integer`.
     const WIDTH: u32;
@@ -47,19 +47,20 @@ pub trait IntegerType {
         Self: Sized,
         ensures { value result ≡ pos 0 };
 
-    /// The number that the octets spell: two's complement, or without a sign for an unsigned type.
+    /// Returns the number that the octets encode: two's complement, or without a sign for an
+    /// unsigned type.
     fn try_from_bytes(alloc: Global, octets: &[u8]) -> Result<Self, IntegerError>
     where
         Self: Sized,
         ensures { Answers kind value result (own_reading kind octets.now) };
 
-    /// The number that two's complement octets spell (X.690 8.3.3).
+    /// Returns the number that two's complement octets encode (X.690 8.3.3).
     fn try_from_signed_bytes(alloc: Global, octets: &[u8]) -> Result<Self, IntegerError>
     where
         Self: Sized,
         ensures { Answers kind value result (signed_reading kind octets.now) };
 
-    /// The number that octets without a sign spell.
+    /// Returns the number that octets without a sign encode.
     fn try_from_unsigned_bytes(alloc: Global, octets: &[u8]) -> Result<Self, IntegerError>
     where
         Self: Sized,

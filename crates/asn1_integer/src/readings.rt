@@ -106,7 +106,7 @@ fn read_unsigned_type(octets: &[u8], size: usize) -> Result<u128, IntegerError>
     Ok(unsigned_value(number))
 }
 
-/// The octets behind one first zero octet, which adds nothing to the value.
+/// The octets after one first zero octet, which adds nothing to the value.
 fn without_zero_first(octets: &[u8]) -> &[u8]
     ensures counted { length result.now ≡ counted_length octets.now }
     ensures value { unsigned result.now ≡ unsigned octets.now }

@@ -19,7 +19,7 @@ use Rattle.asn1_number.specs.Octets.{IsOctets, unsigned, signed}
 use Rattle.asn1_number.specs.OctetLaws.{unsigned-cons, unsigned_nil, low_parts, high_parts, signed_range, octets-drop}
 use Rattle.asn1_number.specs.WidthLaws.{unsigned-bytes, signed-bytes, signed_as_bits, signed_more, octet_at, octets-take, fits_by_parts}
 
--- a word's bytes spell it
+-- a word's bytes encode it
 pub word_value : (o : List ℕ) (n : ℕ) → length o ≡ 8 → ((i : ℕ) → get_or o i 0 < 256) → n ≡ from_be_bytes w64 o
     → n < 2 ^ 64 → cast_signed w64 n ≡ signed o
 word_value o n l h e s = sym (signed-bytes 7 n s) ∙ ap signed (be_bytes_8 o n l h e)
@@ -199,7 +199,7 @@ two_halves h l b =
     let m = mod_below (h * 2 ^ 64 + l) (2 ^ 64) (omega arith) in
     same_from_place ((h * 2 ^ 64 + l) / 2 ^ 64) ((h * 2 ^ 64 + l) % 2 ^ 64) h l (2 ^ 64) m b d
 
--- sixteen octets spell the number of their two words
+-- sixteen octets encode the number of their two words
 pub sixteen_by_halves : (a : List ℕ) → IsOctets a → length a ≡ 16
     → cast_signed w128 (unsigned (take 8 a) * 2 ^ 64 + unsigned (drop 8 a)) ≡ signed a
 sixteen_by_halves [] h l = absurd (omega arith)

@@ -1,4 +1,4 @@
--- Lemmas on what octets spell.
+-- Lemmas on what octets encode.
 use Rattle.std.proofs.Common.{◌≡◌, ℕ, zero, suc, ◌+◌, ◌-◌, ◌*◌, ◌^◌, ◌<◌, ◌≤◌, ℤ, pos, negsuc, ◌-ℤ◌, neg_ℤ, List, [], ◌∷◌, length, get_or, drop, refl, sym, ap, subst, ◌∙◌, ◌⊎◌, inl, inr, arith, ⊎_elim}
 use Rattle.std.proofs.Math.Nat.{pow-suc, mul-le-mul_right, one-le-pow, pow-le-pow_right}
 use Rattle.std.proofs.lemmas.List.{drop-drop}
@@ -83,7 +83,7 @@ signed_range b bs o = ⊎_elim low high (cases_lt b 128)
         let one : 1 ≤ 256 ^ length bs = one-le-pow (length bs) 256 (omega arith) in
         (omega arith, omega arith)
 
--- where the first nine bits are not all alike, the value lies outside what one octet less can spell
+-- where the first nine bits are not all alike, the value lies outside what one octet less can encode
 pub signed_outside : (b c : ℕ) (bs : List ℕ) → IsOctets (b ∷ c ∷ bs) → NineBitsDiffer (b ∷ c ∷ bs) →
     (128 * 256 ^ length bs ≤ up (signed (b ∷ c ∷ bs))) ⊎ (128 * 256 ^ length bs < down (signed (b ∷ c ∷ bs)))
 signed_outside b c bs o d = ⊎_elim low high (cases_lt b 128)

@@ -1,4 +1,4 @@
--- What a list of octets spells (X.690 8.3.2 and 8.3.3), most significant octet first.
+-- What a list of octets encodes (X.690 8.3.2 and 8.3.3), most significant octet first.
 use Rattle.std.specs.Prelude.{◌≡◌, ℕ, ◌+◌, ◌*◌, ◌^◌, ◌<◌, ◌≤◌, ℤ, pos, ◌-ℤ◌, List, [], ◌∷◌, length, nat_lt, if◌then◌else◌}
 use Rattle.std.specs.List.{AllByRecursion}
 
@@ -28,7 +28,7 @@ pub record IsShortest (n : ℤ) (o : List ℕ) : Type 0 where
       (other : List ℕ) → IsOctets other → 0 < length other → signed other ≡ n →
       length o ≤ length other
 
--- o spells n without a sign: its positional sum is n, and no shorter list has that sum
+-- o encodes n without a sign: its positional sum is n, and no shorter list has that sum
 pub record IsShortestUnsigned (n : ℕ) (o : List ℕ) : Type 0 where
   pub octets : IsOctets o
   pub some : 0 < length o

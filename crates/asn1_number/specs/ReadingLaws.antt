@@ -203,7 +203,7 @@ past_u128 (b ∷ c ∷ bs) h d l z r = ⊎_elim low high (cases_lt b 128)
             mul-le-mul_right (256 ^ length (c ∷ bs)) k in
             omega (arith, most, low_parts b (c ∷ bs) i, unsigned-cons b (c ∷ bs))
 
--- seventeen octets that begin with zero spell what the other sixteen do without a sign
+-- seventeen octets that begin with zero encode what the other sixteen do without a sign
 pub zero_then_sixteen : (o rest : List ℕ) → 0 < length o → get_or o 0 0 ≡ 0 → rest ≡ drop 1 o
     → signed o ≡ pos (unsigned rest)
 zero_then_sixteen [] rest l z e = absurd (omega arith)
@@ -216,7 +216,7 @@ pub low_value : (o : List ℕ) → 0 < length o → get_or o 0 0 < 128 → signe
 low_value [] some l = absurd (omega arith)
 low_value (b ∷ bs) some l = signed_low b bs l
 
--- a kept list of more than sixteen octets spells no `u128`, unless it is a zero octet and sixteen
+-- a kept list of more than sixteen octets encodes no `u128`, unless it is a zero octet and sixteen
 -- others
 pub spells_no_u128 : (n : ℤ) (o s : List ℕ) → s ≡ o → signed o ≡ n → IsShortest (signed o) o → 16 < length o
     → (length s ≡ 17 → get_or s 0 0 ≡ 0 → ⊥) → IsInRange (UnsignedOf 16) n → ⊥

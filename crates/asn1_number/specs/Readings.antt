@@ -99,12 +99,12 @@ unsigned_reading (UnsignedOf size) (b ∷ bs) =
     else Ok (pos (unsigned (b ∷ bs)))
 unsigned_reading Unbounded (b ∷ bs) = Ok (pos (unsigned (b ∷ bs)))
 
--- want of memory is answered by `Integer` alone, for a number outside `i128`
+-- `Memory` is returned by `Integer` alone, for a number outside `i128`
 abbrev pub MayWantMemory : IntegerKind → Result ℤ IntegerError → Type 0
 MayWantMemory Unbounded (Ok n) = ¬ (FitsI128 n)
 MayWantMemory kind reading = ⊥
 
--- The call answered what the table says: its number or its refusal. It may answer `Memory` instead
+-- The call answered what the table says: its number or its error. It may answer `Memory` instead
 -- only for `Integer`, and only where the table's number lies outside `i128`.
 abbrev pub Answers : {T : Type 0} →
     IntegerKind → (T → ℤ) → Result T IntegerError → Result ℤ IntegerError → Type 0

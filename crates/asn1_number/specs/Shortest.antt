@@ -5,7 +5,7 @@ use Rattle.std.specs.Int.{bytes_high_first}
 use Rattle.std.specs.List.{prefix_len, range_with_len}
 use lib.Signed.{mag}
 
--- how many octets z needs behind the first: the least k with -128 * 256 ^ k ≤ z < 128 * 256 ^ k.
+-- how many octets z needs after the first: the least k with -128 * 256 ^ k ≤ z < 128 * 256 ^ k.
 -- It is counted by `mag`, which is n for n and for -n - 1, since these need as many: -128 has one
 -- octet, as 127 has
 abbrev pub octets_past_first : ℤ → ℕ

@@ -1,3 +1,4 @@
+-- The octets of an integer, wherever they are.
 use Rattle.std.specs.Prelude.{◌≡◌, ℕ, ◌+◌, ◌≤◌, List, drop, length, ⊤}
 use Rattle.std.specs.List.{flat_map}
 use Rattle.asn1_number.specs.declared.integer_bytes.Storage.{Storage}

@@ -89,7 +89,7 @@ unsigned-bytes k n h =
     let z : n / 256 ^ k * 256 ^ k ≡ 0 = ap (λ x. x * 256 ^ k) (div-eq_of_lt h) ∙ omega arith in
     omega arith
 
--- two's complement: the number that the bits stand for
+-- two's complement: the number that the bits mean
 pub signed_as_bits : (b : ℕ) (bs : List ℕ) → IsOctets (b ∷ bs) →
     signed (b ∷ bs) ≡ sel (ltb (unsigned (b ∷ bs)) (128 * 256 ^ length bs)) (pos (unsigned (b ∷ bs)))
     (negsuc (256 ^ length (b ∷ bs) - suc (unsigned (b ∷ bs))))

@@ -1,4 +1,4 @@
-//! Why octets are refused as an integer.
+//! Why octets are no integer.
 use std::alloc::AllocError;
 use thiserror::Error;
 
@@ -6,7 +6,7 @@ use thiserror::Error;
 /// for.
 #[derive(Clone, Copy, Debug, Drop, Error, PartialEq, Eq, PartialOrd, Ord, Hash)]
 pub enum IntegerError {
-    /// There are no octets; X.690 8.3.1 asks for at least one.
+    /// There are no octets; X.690 8.3.1 requires at least one.
     #[error("empty input")]
     UnexpectedEmptyInput,
     /// There are more octets than fit the type. An unsigned type that reads two's complement allows

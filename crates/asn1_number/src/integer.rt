@@ -30,7 +30,7 @@ pub struct Integer {
     form: Form,
 }
 
-/// Each number has one form: inline within `i128`, else its shortest two's complement octets.
+/// Each number has one form: inline within `i128`, otherwise its shortest two's complement octets.
 #[derive(Debug, Drop)]
 enum Form {
     /// The sixteen octets of the number, of which those from `start` on are the shortest. So these
@@ -215,7 +215,7 @@ impl Integer {
         if octets.len() < 16 {
             return Ok(Integer::inline(unsigned_value(octets) as i128));
         }
-        // Bit 8 of the first octet is set: a zero octet in front keeps it from being a sign.
+        // Bit 8 of the first octet is set: a zero octet before it keeps it from being a sign.
         let Ok(mut kept) = Vec::with_capacity(alloc, octets.len() + 1) else {
             return Err(IntegerError::Memory);
         };

@@ -11,7 +11,7 @@ use std::convert::AsSlice;
 use std::marker::Model;
 
 /// The octets of an integer, most significant first: up to seventeen of them inline, or borrowed
-/// from the number that they spell. It is seen as a list of octets.
+/// from the number that they encode. It is seen as a list of octets.
 #[derive(Debug, Drop)]
 pub struct IntegerBytes<'a> {
     storage: Storage<'a>,

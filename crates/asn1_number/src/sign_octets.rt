@@ -45,8 +45,8 @@ pub(crate) fn shortest_part(octets: &[u8]) -> &[u8]
     without_redundant_sign_octets(octets)
 }
 
-/// How many first octets of a number's shortest two's complement octets only say that it is not
-/// negative: one zero octet in front of others, or none.
+/// Returns how many first octets of a number's shortest two's complement octets only say that it is
+/// not negative: one zero octet before others, or none.
 pub(crate) fn zeros_for_sign(octets: &[u8]) -> usize
     ensures within { result ≤ length octets.now }
     ensures shortest { (n : ℕ) → IsShortest (pos n) octets.now

@@ -12,8 +12,7 @@ use std::error::Error;
 use std::fmt;
 use std::marker::Model;
 
-/// A number that was refused because the type that was asked for does not hold it. It is seen as
-/// that number.
+/// A number that the wanted type does not hold. It is seen as that number.
 #[derive(Debug, Drop, PartialEq, Eq)]
 pub struct TryFromIntegerError {
     original: Integer,
@@ -43,7 +42,7 @@ impl TryFromIntegerError {
         &self.original
     }
 
-    /// The number that was refused.
+    /// Returns the number that the type does not hold.
     pub fn into_original(self) -> Integer
         ensures { result ≡ self }
     {
@@ -51,7 +50,7 @@ impl TryFromIntegerError {
         original
     }
 
-    /// The same refusal. Memory is asked for only where the number lies outside `i128`.
+    /// Returns a copy. It allocates only if the number is outside `i128`.
     pub fn clone(&self) -> Result<TryFromIntegerError, AllocError>
         ensures value { IfOk result (λ e. e ≡ self.now) }
         ensures memory { OnErr result (¬ (FitsI128 self.now)) }
@@ -75,7 +74,7 @@ impl fmt::Display for TryFromIntegerError {
 
 impl Error for TryFromIntegerError {}
 
-/// The value, where the type holds the number, else the number back.
+/// Returns the value if the type holds the number, otherwise the number itself.
 #[inline(always)]
 fn kept_or_back<T: Copy>(value: Option<T>, number: Integer) -> Result<T, TryFromIntegerError>
     ensures { MatchOption value (result ≡ Err number) (λ x. result ≡ Ok x) }

@@ -46,7 +46,7 @@ takes_last word (suc k) some =
 
 -- ---- both ends
 
--- what is left in front is held otherwise
+-- what is left before is held otherwise
 pub both_left-same : (word k next j : ℕ) (arcs others : List ℕ) (back n : ℕ)
     → word_left word k arcs ≡ word_left next j others → both_left word k arcs back n ≡ both_left next j others back n
 unfolding both_left

@@ -44,7 +44,7 @@ stops_are_ascii (x ∷ xs) small =
     (IsAscii-append (full_stop ∷ []) (decimal x) stop_is_ascii (IsAscii-decimal x (omega (arith, head))))
     (stops_are_ascii xs (λ i. small (suc i)))
 
--- the text of a group, and of the arcs behind it, is that of them all
+-- the text of a group, and of the arcs after it, is that of them all
 pub stops_go_on : (arcs group others : List ℕ) (skipped : ℕ) → arcs ≡ group ++ others → 0 < length group → skipped ≤ 1 →
     drop skipped (with_stops group) ++ with_stops others ≡ drop skipped (with_stops arcs)
 stops_go_on arcs [] others skipped e some few = absurd (omega arith)

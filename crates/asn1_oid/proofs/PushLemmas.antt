@@ -12,7 +12,7 @@ use Rattle.asn1_oid.proofs.WritingLemmas.{length-both_left}
 pub one_pushed : (old new : List ℕ) (n : ℕ) → new ≡ old ++ (n % 128) ∷ [] → new ≡ old ++ last_octets n 1
 one_pushed old new n e = e ∙ ap (λ (l : List ℕ). old ++ l) (sym (last_octet n))
 
--- one octet, and those behind it
+-- one octet, and those after it
 pub more_pushed : (old between new : List ℕ) (n octet k : ℕ) → between ≡ old ++ octet ∷ []
     → new ≡ between ++ last_octets n (suc k) → octet ≡ 128 + n / 128 ^ suc k % 128
     → new ≡ old ++ last_octets n (suc (suc k))

@@ -18,6 +18,6 @@ full_stop = 46
 abbrev pub dotted : List ℕ → List ℕ
 dotted arcs = join_with_byte full_stop (map decimal arcs)
 
--- the decimals of the arcs, each behind a full stop
+-- the decimals of the arcs, each after a full stop
 abbrev pub with_stops : List ℕ → List ℕ
 with_stops arcs = flat_map (λ b. full_stop ∷ decimal b) arcs

@@ -17,7 +17,7 @@ unfoldable pub base_128 : List ℕ → ℕ
 base_128 [] = 0
 base_128 (octet ∷ octets) = octet % 128 * 128 ^ length octets + base_128 octets
 
--- the octets spell n as a subidentifier, in the fewest possible: the first is not 80 (hexadecimal)
+-- the octets encode n as a subidentifier, in the minimal number of octets: the first is not 80 (hexadecimal)
 pub record IsSubidentifier (n : ℕ) (octets : List ℕ) : Type 0 where
   pub series : IsSeries octets
   pub value : base_128 octets ≡ n

@@ -39,7 +39,7 @@ largest_other = 4294967295
 abbrev pub other_fits : ℕ → Bool
 other_fits n = nat_le n largest_other
 
--- arcs that fit, or the refusal of the subidentifiers
+-- arcs that fit, or the error of the subidentifiers
 abbrev pub arcs_of_numbers : Option (List ℕ) → Result (List ℕ) ContentsError
 arcs_of_numbers None = Err Malformed
 arcs_of_numbers (Some []) = Err Malformed

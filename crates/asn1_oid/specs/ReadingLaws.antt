@@ -28,7 +28,7 @@ goes_on false n octet rest ge first = rw (ne_eqb octet 128 (first refl), le-ltb 
 
 -- ---- from left to right, the value grows by one octet
 
--- what came before, one octet, and the octets behind it
+-- what came before, one octet, and the octets after it
 grown : (n x p b : ℕ) → (128 * n + x) * p + b ≡ n * (128 * p) + (x * p + b)
 grown n x p b =
     let a : (128 * n + x) * p ≡ 128 * n * p + x * p = add-mul (128 * n) x p in
@@ -349,7 +349,7 @@ none_read octets are none = by_reading (contents_reading octets) refl (told octe
     by_reading (Err ArcTooLarge) e t = absurd (none t.0 t.1)
     by_reading (Err Memory) e t = absurd t
 
--- the other way round, by the refusal
+-- the other way round, by the error
 pub arcs_from_reading : (arcs octets : List ℕ) → All (λ octet. octet < 256) octets → contents_reading octets ≡ Ok arcs
     → IsContents arcs octets × FitU32 arcs
 unfolding Told

@@ -88,7 +88,7 @@ series_of_last : (n k : ℕ) → IsSeries (last_octets n (suc k))
 series_of_last n zero = subst IsSeries (sym (last_octet n)) (inl (omega arith, refl))
 series_of_last n (suc k) = subst IsSeries (sym (octet_before n k)) (inr (omega arith, omega arith, series_of_last n k))
 
--- a digit in front, and the digits behind it
+-- a digit before, and the digits after it
 split_digits : (n p : ℕ) → 1 ≤ p → n % (128 * p) ≡ n / p % 128 * p + n % p
 split_digits n p some =
     let q : ℕ = n / p in

@@ -48,7 +48,7 @@ pub enum ContentsError {
     /// with 80 (hexadecimal), or the last one does not end.
     #[error("no contents of an object identifier")]
     Malformed,
-    /// They are the contents of arcs, one of which passes `u32`.
+    /// They are the contents of arcs, one of which exceeds `u32`.
     #[error("an arc of more than 32 bits")]
     ArcTooLarge,
     /// They are the contents of an identifier, but there is no memory.
@@ -140,7 +140,7 @@ fn room_for(alloc: Global, count: usize) -> Option<Vec<u32>>
     Vec::with_capacity(alloc, count.checked_add(1)?).ok()
 }
 
-/// The number of the subidentifier at a place, and the place behind it; None where none stands
+/// The number of the subidentifier at a place, and the place after it; None where none stands
 /// there, or a larger one.
 fn fitting_at<S: OctetSource>(source: &S, at: usize, largest: u64) -> Option<(u64, usize)>
     requires { at ≤ length (S.list source.now) }
@@ -157,7 +157,7 @@ fn fitting_at<S: OctetSource>(source: &S, at: usize, largest: u64) -> Option<(u6
 }
 
 /// The number of the subidentifier at a place, which stops growing where no arc can be so large,
-/// and the place behind it; None where none stands there.
+/// and the place after it; None where none stands there.
 fn subidentifier_at<S: OctetSource>(source: &S, at: usize) -> Option<(u64, usize)>
     requires { at ≤ length (S.list source.now) }
     ensures some { IfSome result (λ r. Stands (S.list source.now) at r.0 r.1 (largest_first + 1)) }

@@ -69,7 +69,7 @@ impl ObjectIdentifier {
         ObjectIdentifier { arcs }
     }
 
-    /// A copy that owns its arcs. Refused for want of memory alone.
+    /// A copy that owns its arcs. Returns an error only if out of memory.
     pub fn from_oid(alloc: Global, oid: Oid<'_>) -> Result<ObjectIdentifier, AllocError>
         ensures { IfOk result (λ copy. copy ≡ arcs_of oid.entry) }
     {
@@ -170,7 +170,7 @@ impl ObjectIdentifier {
     }
 
     /// The same identifier. Arcs that are borrowed for good stay borrowed; others are copied.
-    /// Refused for want of memory alone.
+    /// Returns an error only if out of memory.
     pub fn clone(&self) -> Result<ObjectIdentifier, AllocError>
         ensures { IfOk result (λ copy. copy ≡ self.now) }
     {

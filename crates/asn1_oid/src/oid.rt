@@ -59,7 +59,7 @@ impl<'a> Oid<'a> {
         self.arcs
     }
 
-    /// A copy that owns its arcs. Refused for want of memory alone.
+    /// A copy that owns its arcs. Returns an error only if out of memory.
     pub fn to_owned(&self, alloc: Global) -> Result<ObjectIdentifier, AllocError>
         ensures { IfOk result (λ copy. copy ≡ arcs_of self.now) }
     {
@@ -86,7 +86,7 @@ impl<'a> Oid<'a> {
         Some(u128::from(octet_count(number)) + octets_of_arcs(arcs) as u128)
     }
 
-    // The first subidentifier, of the first two arcs, and the arcs behind these.
+    // The first subidentifier, of the first two arcs, and the arcs after these.
     fn subidentifiers(&self) -> Option<(u64, &'a [u32])>
         ensures numbers { MatchOption result (length (arcs_of self.now) ≡ 1)
             (λ r. subidentifiers (arcs_of self.now) ≡ r.0 ∷ r.1.now) }
@@ -118,7 +118,7 @@ impl fmt::Display for Oid<'_> {
     fn fmt<W: fmt::Write>(&self, f: &mut fmt::Formatter<W>) -> fmt::Result {
         let mut room = [b'.'; 88];
         let mut rest = self.arcs;
-        // The first arc has no full stop in front.
+        // The first arc has no full stop before it.
         let mut skipped = 1;
         while !rest.is_empty() {
             let (group, others) = rest.split_at(rest.len().min(8));

@@ -148,8 +148,8 @@ impl<'a> OidContents<'a> {
     pub fn append_to(self, octets: &mut Vec<u8>) -> Result<(), AllocError>
         ensures ok { OnOk result (octets.new.items ≡ octets.old.items ++ self.entry) }
         ensures err { OnErr result (octets.new.items ≡ octets.old.items) }
-        // Of no octets it asks for no memory, nor where there is room for five times the octets
-        // that are left.
+        // For no octets it allocates nothing, nor if there is room for five times the octets that
+        // are left.
         ensures free { self.entry ≡ [] → IsOk result }
         ensures in_room { vec_len octets.old + 5 * length self.entry ≤ vec_capacity octets.old
             → IsOk result }

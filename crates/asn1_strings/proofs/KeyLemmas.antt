@@ -1,4 +1,4 @@
--- The first wrong key.
+-- The first invalid key.
 use Rattle.std.proofs.Common.{◌≡◌, ℕ, suc, ◌+◌, ◌*◌, ◌/◌, ◌%◌, ◌^◌, ◌<◌, ◌≤◌, Bool, true, false, not, List, [], ◌∷◌, ◌++◌, ◌&&◌, length, get_or, map, take, drop, Option, Some, None, Result, Ok, Err, refl, ap, sym, ◌∙◌, inl, inr, arith}
 use Rattle.std.specs.Prelude.{◌≢◌}
 use Rattle.std.specs.Option.{option_map_or, unwrap_or}
@@ -25,7 +25,7 @@ use Rattle.asn1_characters.specs.declared.error.PermittedAlphabetError.TheVarian
 abbrev after_search : CharacterSetName → (ℕ → Option ℕ) → List ℕ → Option ℕ → Result (List ℕ) PermittedAlphabetError
 after_search name get keys o = option_map_or (λ k. Err (key_error name k (get k))) o (Ok (filter_map get keys))
 
--- the string is refused for its first wrong key
+-- the string fails for its first invalid key
 keyed_wrong : (name : CharacterSetName) (get : ℕ → Option ℕ) (keys : List ℕ) (i : ℕ) → i < length keys
     → ((k : ℕ) → k < i → is_wrong_key name get (get_or keys k 0) ≡ false)
     → is_wrong_key name get (get_or keys i 0) ≡ true
@@ -57,7 +57,7 @@ mapped_none : (f : ℕ → ℕ) (keys : List ℕ) → map f keys ≡ [] → keys
 mapped_none f [] e = refl
 mapped_none f (x ∷ keys) e = cc
 
--- where there are keys and each is right, want of memory is a refusal
+-- where there are keys and each is right, `Memory` is an error
 pub keyed_wanting : (name : CharacterSetName) (get : ℕ → Option ℕ) (keys : List ℕ) → keys ≢ []
     → ((k : ℕ) → k < length keys → is_wrong_key name get (get_or keys k 0) ≡ false)
     → Refuses Memory (string_of_keys name get keys)
@@ -148,7 +148,7 @@ keys_within n w len le =
     let down = div-mul-le_self len w in
     omega arith
 
--- the first wrong key is not in the map
+-- the first invalid key is not in the map
 pub keyed_missing : (name : CharacterSetName) (get : ℕ → Option ℕ) (keys : List ℕ) (i : ℕ) → i < length keys
     → ((k : ℕ) → k < i → is_wrong_key name get (get_or keys k 0) ≡ false) → get (get_or keys i 0) ≡ None
     → string_of_keys name get keys ≡ Err (IndexNotFound (get_or keys i 0))
@@ -157,7 +157,7 @@ keyed_missing name get keys i lt before none =
     (ap (λ o. option_map_or (λ c. not (has_character (base_set name) c)) o true) none)
     ∙ ap (λ o. Err (key_error name (get_or keys i 0) o)) none
 
--- the character at the first wrong key is not in the set
+-- the character at the first invalid key is not in the set
 pub keyed_outside : (name : CharacterSetName) (get : ℕ → Option ℕ) (keys : List ℕ) (i c : ℕ) → i < length keys
     → ((k : ℕ) → k < i → is_wrong_key name get (get_or keys k 0) ≡ false) → get (get_or keys i 0) ≡ Some c
     → has_character (base_set name) c ≡ false

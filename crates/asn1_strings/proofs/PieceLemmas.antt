@@ -1,4 +1,4 @@
--- Pieces, and the numbers that they spell.
+-- Pieces, and the numbers that they encode.
 use Rattle.std.proofs.Common.{◌≡◌, ℕ, suc, ◌+◌, ◌*◌, ◌/◌, ◌^◌, ◌<◌, ◌≤◌, List, [], ◌∷◌, length, get_or, map, ap, ◌∙◌, arith}
 use Rattle.std.specs.List.{fold}
 use Rattle.std.proofs.Math.Nat.{pow-succ'}

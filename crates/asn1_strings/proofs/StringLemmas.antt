@@ -21,7 +21,7 @@ pub find_nothing : (p : ℕ → Bool) (xs : List ℕ) → ((k : ℕ) → k < len
 find_nothing p [] none = refl
 find_nothing p (x ∷ xs) none = rw (none 0 (omega arith)) (find_nothing p xs (λ k h. none (suc k) (omega arith)))
 
--- the string is refused for its first wrong character
+-- the string fails for its first invalid character
 pub string_of_wrong : (name : CharacterSetName) (cs : List ℕ) (i : ℕ) → i < length cs
     → ((k : ℕ) → k < i → has_character (base_set name) (get_or cs k 0) ≡ true)
     → has_character (base_set name) (get_or cs i 0) ≡ false

@@ -1,4 +1,4 @@
--- The numbers that pieces of bits spell.
+-- The numbers that pieces of bits encode.
 use Rattle.std.specs.Prelude.{ℕ, List, map}
 use Rattle.asn1_bits.specs.BitStr.{bits_of}
 use Rattle.asn1_bits.specs.Bits.{number}

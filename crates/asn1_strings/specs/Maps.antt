@@ -40,20 +40,20 @@ map_of_entries m = record {
 abbrev pub is_wrong_key : CharacterSetName → (ℕ → Option ℕ) → ℕ → Bool
 is_wrong_key name get k = option_map_or (λ c. not (has_character (base_set name) c)) (get k) true
 
--- the refusal of a wrong key, by what stands at it
+-- the error of an invalid key, by what is at it
 abbrev pub key_error : CharacterSetName → ℕ → Option ℕ → PermittedAlphabetError
 key_error name k None = IndexNotFound k
 key_error name k (Some c) = InvalidRestrictedString (own_error name c)
 
--- the string of the characters at these keys: all of them, or the refusal of the first wrong key
+-- the string of the characters at these keys: all of them, or the error of the first invalid key
 abbrev pub string_of_keys : CharacterSetName → (ℕ → Option ℕ) → List ℕ → Reading
 string_of_keys name get keys =
     option_map_or (λ k. Err (key_error name k (get k))) (find (is_wrong_key name get) keys)
     (Ok (filter_map get keys))
 
 -- How bits are read by a map of n entries. They are cut into pieces of ceil_log2 n bits. If the
--- map's largest character needs more bits than that, each piece is a key and stands for the
--- character that the map has there; otherwise each piece is the character itself.
+-- map's largest character needs more bits than that, each piece is the key of a
+-- character of the map; otherwise each piece is the character itself.
 abbrev pub string_of_map : CharacterSetName → KeyMap → List Bool → Reading
 string_of_map name m bits =
     let w = ceil_log2 m.count in
@@ -64,7 +64,7 @@ string_of_map name m bits =
     else string_of_characters name (map number (pieces w bits)))
     else Err (InvalidData (length bits) w))
 
--- with no map, the base set and its places stand for it
+-- with no map, the base set by its indices
 abbrev pub string_of_alphabet : CharacterSetName → Option (BTreeMap ℕ ℕ) → List Bool → Reading
 string_of_alphabet name None bits = string_of_map name (base_map name) bits
 string_of_alphabet name (Some m) bits = string_of_map name (map_of_entries m) bits

@@ -1,4 +1,4 @@
--- Laws of pieces: how many a list has, that each lies within it, and what is behind the first.
+-- Laws of pieces: how many a list has, that each lies within it, and what is after the first.
 use Rattle.std.proofs.Common.{◌≡◌, ℕ, suc, zero, ◌+◌, ◌*◌, ◌/◌, ◌<◌, ◌≤◌, List, ◌∷◌, ◌++◌, length, take, drop, map, refl, ap, sym, ◌∙◌, arith}
 use Rattle.std.specs.List.{range_with_len}
 use Rattle.std.proofs.Math.Seq.{drop-append-add, take-append_seam}

@@ -1,4 +1,4 @@
--- Lists that are cut into parts of one length, and the numbers that octets spell.
+-- Lists that are cut into parts of one length, and the numbers that octets encode.
 use Rattle.std.specs.Prelude.{◌+◌, ◌*◌, ◌/◌, ◌^◌, ℕ, List, [], ◌∷◌, length, map, take, drop}
 use Rattle.std.specs.List.{range_with_len}
 

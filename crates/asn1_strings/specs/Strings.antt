@@ -10,11 +10,11 @@ use Rattle.asn1_characters.specs.declared.character_set.CharacterSetName.TheVari
 use Rattle.asn1_characters.specs.declared.error.PermittedAlphabetError.{PermittedAlphabetError}
 use Rattle.asn1_characters.specs.declared.error.PermittedAlphabetError.TheVariants.{Other, InvalidData, IndexNotFound, CharacterNotFound, InvalidRestrictedString, Memory}
 
--- what is read: the characters of a string, or its refusal
+-- what is read: the characters of a string, or its error
 abbrev pub Reading : Type 0
 Reading = Result (List ℕ) PermittedAlphabetError
 
--- how many octets a character has (X.690 8.21): two in `BmpString`, one in the other seven
+-- how many octets a character has (X.690 8.23): two in `BmpString`, one in the other seven
 abbrev pub character_octets : CharacterSetName → ℕ
 character_octets Bmp = 2
 character_octets General = 1
@@ -52,7 +52,7 @@ string_of_bits name w bits =
     then string_of_characters name (map number (pieces w bits))
     else Err (InvalidData (length bits) w))
 
--- Want of memory answers only what would else be a string that is not empty. Every other refusal is
+-- `Memory` is returned only for what would otherwise be a string that is not empty. Every other error is
 -- the one that was read.
 abbrev pub Refuses : PermittedAlphabetError → Reading → Type 0
 Refuses Memory (Ok cs) = cs ≢ []
@@ -64,7 +64,7 @@ Refuses (CharacterNotFound c) read = read ≡ Err (CharacterNotFound c)
 Refuses (InvalidRestrictedString e) read = read ≡ Err (InvalidRestrictedString e)
 
 -- A result answers a reading: `Ok` of a string whose characters (`view`) are those read; or the
--- very refusal that was read; or `Memory`, and then only if a string with at least one character
+-- very error that was read; or `Memory`, and then only if a string with at least one character
 -- was to be made.
 abbrev pub Answers : {S : Type 0} → (S → List ℕ) → Result S PermittedAlphabetError → Reading →
     Type 0

@@ -22,10 +22,10 @@ pub trait CodeUnit: Copy + Drop + fmt::Debug {
     /// One more than the greatest character that can be kept.
     ghost limit: { ℕ };
 
-    /// The octets of a character in the contents of the string (X.690 8.21).
+    /// The octets of a character in the contents of the string (X.690 8.23).
     ghost OCTETS: { ℕ };
 
-    /// How many octets a character has in the contents of the string (X.690 8.21).
+    /// How many octets a character has in the contents of the string (X.690 8.23).
     const OCTETS: usize;
 
     /// The character.

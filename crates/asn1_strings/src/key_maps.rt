@@ -74,7 +74,7 @@ impl CountedKeys for &BTreeMap<u32, u32> {
     }
 }
 
-// Each number as its own key, for bits that spell the characters themselves.
+// Each number as its own key, for bits that encode the characters themselves.
 struct Itself;
 
 impl Keys for Itself {
@@ -85,7 +85,7 @@ impl Keys for Itself {
     }
 }
 
-/// The string of the characters that bits spell, `width` bits each.
+/// Returns the string of the characters that bits encode, `width` bits each.
 #[inline(always)]
 pub(crate) fn string_of_numbers<'a, S: StaticPermittedAlphabet>(
     alloc: Global,

@@ -1,4 +1,4 @@
-//! Strings at the keys that bits spell: one walk over words of several keys.
+//! Strings at the keys that bits encode: one walk over words of several keys.
 ghost use Rattle.std.specs.Prelude.{◌≡◌, ◌≢◌, ◌≤◌, ◌<◌, ◌+◌, ◌*◌, ◌/◌, true, [], Some, length, map as map_of, vec_len, vec_capacity, IfSome, IsNone};
 ghost use Rattle.asn1_bits.specs.BitStr.{bits_of};
 ghost use Rattle.asn1_characters.specs.Sets.{base_set, has_character};
@@ -32,8 +32,8 @@ pub(crate) fn string_at_keys<'a, S: StaticPermittedAlphabet, M: Keys>(
     }
 }
 
-/// The units of the characters at these keys, read in one walk; None where one is wrong or memory
-/// is refused.
+/// Returns the units of the characters at these keys, read in one walk; `None` if one is invalid,
+/// or if out of memory.
 #[inline(always)]
 fn units_at_keys<'a, S: StaticPermittedAlphabet, M: Keys>(
     alloc: Global,
@@ -133,7 +133,7 @@ fn keys_in_word(width: usize) -> usize
     if most >= 8 { most / 8 * 8 } else { most }
 }
 
-/// The refusal of the first wrong key; where none is wrong, want of memory. There are keys.
+/// Returns the error of the first invalid key; if none is invalid, `Memory`. There are keys.
 #[cold]
 #[inline(never)]
 fn refusal_at_keys<'a, S: StaticPermittedAlphabet, M: Keys>(

@@ -2,8 +2,8 @@
 //! `asn1_characters`.
 //!
 //! A string is a list of characters, each in the base set of its kind (X.680 41). It is read from
-//! its contents (X.690 8.21), a text, bits or an alphabet, whole and in order, or refused by its
-//! first wrong piece. The names of `asn1_characters` and of `asn1_alphabets` are passed on.
+//! its contents (X.690 8.23), a text, bits or an alphabet, whole and in order, or the error names
+//! its first invalid piece. The names of `asn1_characters` and of `asn1_alphabets` are re-exported.
 #![tactic(auto)]
 
 mod bmp_string;

@@ -85,8 +85,8 @@ impl<K: Iso646> RestrictedString<K> {
         self.as_slice()
     }
 
-    /// The characters as octets, without a copy. If memory for their reference count is refused,
-    /// which the empty string does not need, the string comes back.
+    /// Returns the characters as octets, without a copy. If out of memory for their reference
+    /// count, which the empty string does not need, the string is returned.
     pub fn into_octet_string(self) -> Result<OctetString, Self>
         ensures octets { IfOk result (λ octets. octets ≡ self) }
         ensures back { IfErr result (λ s. s ≡ self) }

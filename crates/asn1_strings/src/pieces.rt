@@ -61,7 +61,7 @@ impl<'a> BitPieces<'a> {
         read_u128(piece) as u32
     }
 
-    /// The number that `count` characters from one of them on spell together.
+    /// Returns the number that `count` characters from one of them on encode together.
     #[inline(always)]
     pub(crate) fn word(&self, at: usize, count: usize) -> u64
         requires word { count * self.now.width ≤ 64 }

@@ -1,4 +1,4 @@
-//! The one type behind the eight strings.
+//! The one type after the eight strings.
 ghost use Rattle.std.specs.Prelude.{◌≡◌, ◌≢◌, ◌↔◌, ℕ, true, nat_eq, List, [], map, All, Some, IsTrue, IfOk, OnErr, refl};
 ghost use Rattle.std.specs.Ordering.{nat_cmp};
 ghost use Rattle.std.specs.Hash as fed;

@@ -68,14 +68,14 @@ pub trait StaticPermittedAlphabet: HasCharacterSet + Sized + Drop {
     fn new(alloc: Global) -> Self
         ensures { characters result ≡ [] };
 
-    /// Appends a character of the set. Where memory is refused the string is as before.
+    /// Appends a character of the set. If out of memory, the string is unchanged.
     fn push_char(&mut self, character: u32) -> Result<(), AllocError>
         requires { has_character (base_set Self.CHARACTER_SET_NAME) character ≡ true }
         ensures ok { OnOk result (characters self.new ≡ characters self.old ++ character ∷ []) }
         ensures err { OnErr result (characters self.new ≡ characters self.old) };
 
     /// Reserves room for so many more characters; for 0 it allocates nothing. The string stays,
-    /// also if memory is refused.
+    /// also if out of memory.
     fn reserve(&mut self, additional: usize) -> Result<(), AllocError>
         ensures same { characters self.new ≡ characters self.old }
         ensures memory { OnErr result (additional ≢ 0) };
@@ -138,7 +138,7 @@ pub trait StaticPermittedAlphabet: HasCharacterSet + Sized + Drop {
         string_of_pieces::<Self>(alloc, input, width)
     }
 
-    /// The string that these octets are the contents of (X.690 8.21): one octet a character, two in
+    /// The string that these octets are the contents of (X.690 8.23): one octet a character, two in
     /// `BmpString`, most significant first.
     final fn try_from_slice(alloc: Global, input: &[u8]) -> Result<Self, PermittedAlphabetError>
         ensures { let width = character_octets Self.CHARACTER_SET_NAME in
@@ -214,11 +214,12 @@ pub trait StaticPermittedAlphabet: HasCharacterSet + Sized + Drop {
         string_of_numbers::<Self>(alloc, BitPieces { bits: input, width })
     }
 
-    /// The string of bits that an alphabet spells (X.691 30.5): a map takes keys to characters, and
-    /// None is the base set with its places as keys. Each character has the least width of so many
-    /// entries; width 0, so also a map of one entry or none, is `InvalidData`. Where the largest
-    /// character does not fit the width, the numbers are keys: one that is missing is
-    /// `IndexNotFound`. Else they are characters, which the string's own set alone decides.
+    /// Returns the string of bits that an alphabet encodes (X.691 30.5): a map takes keys to
+    /// characters, and `None` is the base set with its indices as keys. Each character has the
+    /// least width of so many entries; width 0, so also a map of one entry or none, is
+    /// `InvalidData`. If the largest character does not fit the width, the numbers are keys: one
+    /// that is missing is `IndexNotFound`. Otherwise they are characters, which the string's own
+    /// set alone decides.
     final fn try_from_permitted_alphabet(
         alloc: Global,
         input: BitStr<'_>,

@@ -1,4 +1,4 @@
--- The laws of counted integers as fields: an octet, and behind it an integer of so many octets.
+-- The laws of counted integers as fields: an octet, and after it an integer of so many octets.
 use Rattle.std.proofs.Common.{◌≡◌, ℕ, ◌+◌, ◌-◌, ◌*◌, ◌<◌, ◌≤◌, ℤ, Bool, true, false, eqb, ltb, List, ◌∷◌, ◌++◌, length, take, drop, Result, Ok, Err, refl, sym, ap, subst, ◌∙◌, append_assoc, arith, inl, inr}
 use Rattle.std.specs.Prelude.{◌||◌, is_ok}
 use Rattle.std.proofs.lemmas.List.{length-append, take_at, drop_at, length-take, length-drop, take-append-drop}
@@ -51,7 +51,7 @@ no_count k e c =
     let some = c.0 in
     one_of (eqb k 0) (ltb 127 k) e (ne_eqb k 0 (λ z. omega arith)) (le-ltb 127 k c.1)
 
--- ---- the integer behind it
+-- ---- the integer after it
 
 counted_ok : (r : Read) (field : Field) (rest : List Bool) → counted r ≡ Ok (field, rest) → (x : Field × List Bool)
     × (r ≡ Ok x) × (◌≡◌ {A = Field × List Bool} (as_counted x.0, x.1) (field, rest))
@@ -67,7 +67,7 @@ at_integer : (k : ℕ) (left : List Bool) → integer_at k left ≡ field_at (Of
 unfolding field_at
 at_integer k left = refl
 
--- an octet, and octets behind it, are the octets of a list one longer
+-- an octet, and octets after it, are the octets of a list one longer
 bits_more : (octets : List ℕ) → bits (length octets ∷ octets) ≡ digits (length octets) 8 ++ bits octets
 unfolding bits
 bits_more octets = refl
@@ -187,7 +187,7 @@ integer_there : (r : Read) → is_ok (counted r) ≡ true → is_ok r ≡ true
 integer_there (Ok x) e = refl
 integer_there (Err fault) e = absurd cc
 
--- where a counted integer can be read, its first octet is there, and behind it an integer of so many octets
+-- where a counted integer can be read, its first octet is there, and after it an integer of so many octets
 pub counted_there : (list : List Bool) → is_ok (field_at OfCountedInteger list) ≡ true
     → (8 ≤ length list) × (is_no_count (first_octet list) ≡ false)
     × (is_ok (integer_at (first_octet list) (drop 8 list)) ≡ true)
@@ -210,7 +210,7 @@ past_as_counted : (at : ℕ) (read : Result (Field × List Bool) Fault) → past
 past_as_counted at (Ok x) = refl
 past_as_counted at (Err fault) = refl
 
--- behind a count it is examined as the integer is
+-- after a count it is examined as the integer is
 pub examined_counted : {A : Type 0} (at k : ℕ) (list : List Bool) (new : BitReader) (result : Result A ReadError)
     → 8 ≤ length list → k ≡ first_octet list → IsCount k → Examines at (integer_at k (drop 8 list)) new result
     → Examines at (field_at OfCountedInteger list) new result
@@ -220,7 +220,7 @@ examined_counted at k list new result enough is count read =
     rw (le-ltb _ _ enough, ← is, count_test k count) (past_as_counted at (integer_at k (drop 8 list))) in
     record { ok = rw same read.ok; err = rw same read.err }
 
--- and every list that spells it has the bits of the octets that were asked for, and eight more
+-- and every list that encodes it has the bits of the octets that were asked for, and eight more
 pub length-read_counted : (k : ℕ) (list left : List Bool) (n : ℤ) → integer_at k list ≡ Ok (Integer n, left)
     → (others : List Bool) → IsSpelledBy (CountedInteger n) others → length others ≡ 8 + 8 * k
 length-read_counted k list left n e others s =
@@ -228,7 +228,7 @@ length-read_counted k list left n e others s =
     let count : length s.0 ≡ k = ap length (same_shortest n s.0 t.of_shape.0 s.1 t.of_shape.1) ∙ t.of_shape.2 in
     omega (arith, ap length s.3, length-bits (length s.0 ∷ s.0))
 
--- a part of the part behind an octet
+-- a part of the part after an octet
 pub part_behind : (v now : View) (n m : ℕ) → now ≡ part v 8 (v.len - 8) → m ≡ 8 + n
     → part now n (now.len - n) ≡ part v m (v.len - m)
 part_behind v now n m is e =

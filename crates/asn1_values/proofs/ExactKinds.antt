@@ -1,4 +1,4 @@
--- For each kind: what is taken is spelled so, what is spelled so is taken again, and a refusal has its reason.
+-- For each kind: what is taken is encoded so, what is encoded so is taken again, and an error has its reason.
 use Rattle.std.proofs.Common.{is_ok, ◌≡◌, ℕ, ◌-◌, ◌<◌, ◌≤◌, Bool, true, false, cond, ltb, List, ◌++◌, length, take, drop, Result, Ok, Err, refl, sym, ap, subst, ◌∙◌, arith, inl, inr, ◌⊎◌}
 use Rattle.std.proofs.lemmas.List.{length-append, take_at, drop_at, length-take, take-append-drop}
 use Rattle.std.proofs.lemmas.Bool.{ltb-true, ltb-false, le-ltb}

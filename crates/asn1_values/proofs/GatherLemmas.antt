@@ -17,7 +17,7 @@ use Rattle.asn1_bits.specs.Joined.{AreJoined}
 use Rattle.asn1_values.proofs.JoinedLemmas.{joins_push, joins_append, joins_split, Split}
 use Rattle.asn1_values.proofs.SpellingLemmas.{number_fits, octets_fit, bits_fit, integer_fits, character_fits, counted_fits, identifier_fits, all_taken}
 
--- ---- all spellings of a field are as long
+-- ---- all encodings of a field are as long
 
 pub as_long : (field : Field) (a b : List Bool) → IsSpelledBy field a → IsSpelledBy field b → length b ≡ length a
 as_long (Number v w) a b s t = let f = number_fits v w s.0 s.1 in f.len b t ∙ sym (f.len a s)
@@ -38,7 +38,7 @@ all_as_long (field ∷ fields) a b s t =
     let n = ap length t.4 ∙ length-append t.0 t.1 in
     omega arith
 
--- ---- digits behind those of a word
+-- ---- digits after those of a word
 
 -- both are the digits of one number
 pub digits_behind : (word width number more : ℕ) → number < 2 ^ more
@@ -184,7 +184,7 @@ room_behind field old now word width zero_width turns_old turns_now p r = record
 
 -- ---- fields one after another
 
--- the spellings of the fields were taken: a front of them was pushed, in its turns, and the digits of
+-- the encodings of the fields were taken: a front of them was pushed, in its turns, and the digits of
 -- a word are the rest
 pub record Gathering (fields : List Field) (old now : BitAppender) (word width turns_old turns_now : ℕ) : Type 0 where
   pub lender : lender_of now ≡ lender_of old
@@ -293,7 +293,7 @@ module _ (fields : List Field) (old now new : BitAppender)
       }
 
 module _ (fields before after : List Field) (field : Field) (cut : fields ≡ before ++ field ∷ after) where
-  -- behind those that were taken is room for this one
+  -- after those that were taken is room for this one
   pub gathering_room : (old now : BitAppender) (word width turns_old turns_now : ℕ) → HaveRoom fields (room old)
       → Gathering before old now word width turns_old turns_now → HasRoomBehind field width (room now)
   gathering_room old now word width turns_old turns_now h g =
@@ -323,7 +323,7 @@ module _ (fields before after : List Field) (field : Field) (cut : fields ≡ be
 
 -- ---- room
 
--- a field for which there is room behind others has no more bits than that
+-- a field for which there is room after others has no more bits than that
 pub space_behind : (field : Field) (list : List Bool) (n width space : ℕ) → TakesBits field list → length list ≡ n
     → HasRoomBehind field width space → width + n ≤ space
 space_behind field list n width space s len r = let a = r.each list s in omega arith

@@ -125,7 +125,7 @@ none_begins_another ss xs ys front rest zx zy p q =
     record { of_shapes = zy; front = front ++ rest; spelled = q; parts = sym (append-nil (front ++ rest)) } in
     only_fields (plain_shapes ss) (front ++ rest) xs ys rest [] (are_exact ss) a b
 
--- no spelling of one field begins that of another
+-- no encoding of one field begins that of another
 each_alone_of : (shape : plain.Shape) → IsExact shape (field_at shape) → NoSpellingBeginsAnother shape
 each_alone_of shape exact x y front rest sx sy p q =
     let whole : field_at shape (front ++ rest) ≡ Ok (y, []) = ap (field_at shape) (sym (append-nil (front ++ rest)))

@@ -29,7 +29,7 @@ held_identifier (Err Malformed) field e = absurd (no_field _ _ e)
 held_identifier (Err ArcTooLarge) field e = absurd (no_field _ _ e)
 held_identifier (Err Memory) field e = absurd (no_field _ _ e)
 
--- octets that spell the front are those that are read
+-- octets that encode the front are those that are read
 read_back : (count : ℕ) (octets : List ℕ) (front : List Bool) → All (λ octet. octet < 256) octets
     → length octets ≡ count → front ≡ bits octets → octets_of count front ≡ octets
 read_back count octets front are len is =
@@ -187,7 +187,7 @@ read_identifier count list left arcs ok rest read =
     (with_rest (drop (8 * count) list) (content (take (8 * count) list))) some.1 in
     rw (some.0, enough.0, read, rest) refl
 
--- every list that spells what was read of n octets has their bits
+-- every list that encodes what was read of n octets has their bits
 pub length-read_identifier : (n : ℕ) (front : List Bool) (arcs : List ℕ) → 8 * n ≤ length front
     → contents_reading (octets_of n front) ≡ Ok arcs → (others : List Bool) → IsSpelledBy (Identifier arcs) others
     → length others ≡ 8 * n

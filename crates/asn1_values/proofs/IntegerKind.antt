@@ -238,7 +238,7 @@ read_integer count list left n ok rest value = there (integer_at count list) ref
         ∙ ap (λ (l : List Bool). Ok (Integer n, l)) back
     there (Err fault) e h = absurd cc
 
--- and every list that spells it has the bits of the octets that were asked for
+-- and every list that encodes it has the bits of the octets that were asked for
 pub length-read_integer : (count : ℕ) (list left : List Bool) (n : ℤ) → integer_at count list ≡ Ok (Integer n, left)
     → (others : List Bool) → IsSpelledBy (Integer n) others → length others ≡ 8 * count
 unfolding field_at

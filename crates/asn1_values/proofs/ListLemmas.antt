@@ -9,7 +9,7 @@ use Rattle.asn1_values.proofs.ExactKinds.{IsExact, Takes, Read}
 abbrev pub AreExact : List Shape → Type 0
 AreExact shapes = AllByRecursion (λ shape. IsExact shape (field_at shape)) shapes
 
--- one more field in front
+-- one more field before
 pub Begins-cons : (list : List Bool) (shape : Shape) (field : Field) (middle : List Bool) (shapes : List Shape)
     (fields : List Field) (rest : List Bool)
     → Takes shape list field middle → Begins middle shapes fields rest
@@ -61,7 +61,7 @@ all_is x y e = cc
 pub no_end : (x : List Field × List Bool) (e : ℕ × Fault) → ◌≡◌ {A = ReadAll} (Ok x) (Err e) → ⊥
 no_end x e is = cc
 
--- what was read behind a field
+-- what was read after a field
 record Behind (field : Field) (r : ReadAll) (fields : List Field) (rest : List Bool) : Type 0 where
   more : List Field
   read : r ≡ Ok (more, rest)
@@ -78,7 +78,7 @@ behind field (Ok y) fields rest e =
     }
 behind field (Err x) fields rest e = absurd (no_end (fields, rest) (suc x.0, x.1) (sym e))
 
--- the first field, and what was read behind it
+-- the first field, and what was read after it
 record FirstRead (others : List Bool → ReadAll) (r : Read) (fields : List Field) (rest : List Bool) : Type 0 where
   field : Field
   left : List Bool

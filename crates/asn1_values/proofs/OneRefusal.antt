@@ -1,4 +1,4 @@
--- One refusal holds alone: the first fault, and the first misfit, have one place and one reason.
+-- One error holds alone: the first fault, and the first misfit, have one place and one reason.
 use Rattle.std.proofs.Common.{◌≡◌, ◌≢◌, ℕ, zero, suc, ◌+◌, ◌*◌, ◌^◌, ◌<◌, ◌≤◌, Bool, List, [], ◌∷◌, length, take, refl, sym, ap, subst, ◌∙◌, arith, inl, inr, ◌⊎◌}
 use Rattle.std.proofs.lemmas.Bool.{cases_lt}
 use Rattle.asn1_values.specs.declared.bit_fields.error.ReadError.{ReadError}
@@ -63,7 +63,7 @@ counted_or_there : (n : ℕ) (left : List Bool) → IsCountedShort left n → 8 
 counted_or_there n left (inl p) le = omega arith
 counted_or_there n left (inr p) le = let short = p.2 in omega arith
 
--- no two faults are the reason of one refusal
+-- no two faults are the reason of one error
 pub one_reason : (shape : Shape) (left : List Bool) (a b : Fault) → IsReason shape left a → IsReason shape left b
     → a ≡ b
 one_reason (OfNumber width) left (NumberWidth v) (NumberWidth w) p q = ap (λ (k : ℕ). NumberWidth k) (p.0 ∙ sym q.0)
@@ -161,9 +161,9 @@ one_fault list shapes i j a b p q = elim (cases_lt i j) [
   ]
 ]
 
--- ---- the refusals of reading
+-- ---- the errors of reading
 
--- a refusal that names a field says where the first fault is, and which
+-- an error that names a field says where the first fault is, and which
 record NamesFault (list : List Bool) (shapes : List Shape) (e : ReadError) : Type 0 where
   place : ℕ
   fault : Fault
@@ -190,7 +190,7 @@ begun_unnamed list shapes e c ne h =
     let n = names_fault list shapes e ne h in
     n.first.wrong (CanBegin-front list shapes (n.place + 1) c)
 
--- a refusal that names a field is the only one
+-- an error that names a field is the only one
 pub begun_is_memory : (list : List Bool) (shapes : List Shape) (e : ReadError) → CanBegin list shapes
     → IsReadRefusal list shapes e → e ≡ reading.Memory
 begun_is_memory list shapes reading.Memory c p = refl
@@ -205,7 +205,7 @@ one_read_refusal list shapes d e ne p q =
     let one = one_fault list shapes a.place b.place a.fault b.fault a.first b.first in
     sym a.is ∙ ap (λ (k : ℕ). error_at k a.fault) one.0 ∙ ap (λ (f : Fault). error_at b.place f) one.1 ∙ b.is
 
--- ---- the refusals of writing
+-- ---- the errors of writing
 
 one_misfit_reason : (field : Field) (a b : Misfit) → IsMisfit field a → IsMisfit field b → a ≡ b
 one_misfit_reason (Number value width) (WidthOver v) (WidthOver w) p q = ap (λ (k : ℕ). WidthOver k) (p.0 ∙ sym q.0)
@@ -285,7 +285,7 @@ misfit_or_length n fields writing.TooLong ne h = inr (h.0, h.1, h.2, refl)
 misfit_or_length n fields writing.Memory ne h = absurd (ne refl)
 misfit_or_length n fields e ne h = inl h
 
--- a refusal that names a field is the only one
+-- an error that names a field is the only one
 pub one_write_refusal : (n : ℕ) (fields : List Field) (d e : WriteError) → NamesFirstMisfit fields d
     → e ≢ writing.Memory → IsWriteRefusal n fields e → d ≡ e
 one_write_refusal n fields d e p ne q = elim (misfit_or_length n fields e ne q) [
@@ -312,7 +312,7 @@ misfit_or_past n place fields writing.TooLong h = inr (h.0, h.1, h.2, refl)
 misfit_or_past n place fields writing.Memory h = absurd h
 misfit_or_past n place fields e h = inl h
 
--- a refusal to write over bits that names a field is the only one
+-- an error to write over bits that names a field is the only one
 pub one_write_at_refusal : (n place : ℕ) (fields : List Field) (d e : WriteError) → NamesFirstMisfit fields d
     → IsWriteAtRefusal n place fields e → d ≡ e
 one_write_at_refusal n place fields d e p q = elim (misfit_or_past n place fields e q) [

@@ -1,4 +1,4 @@
--- Fields have one spelling, where no alphabet gives a character two codes.
+-- Fields have one encoding, where no alphabet gives a character two codes.
 use Rattle.std.proofs.Common.{inl, inr, arith, ◌≡◌, ℕ, ◌+◌, ◌*◌, List, [], ◌∷◌, ◌++◌, Bool, Option, Some, None, length, sym, ap, subst, ◌∙◌}
 use Rattle.std.specs.Prelude.{IfSome}
 use Rattle.asn1_alphabets.specs.Alphabet.{Alphabet}
@@ -41,7 +41,7 @@ pub contents_length : (arcs octets : List ℕ) (count : ℕ) → IsContents arcs
 contents_length arcs octets count c (inl h) = ap length (contents_only arcs octets h.0 c h.1) ∙ h.2
 contents_length arcs octets count c (inr h) = absurd (let two = c.two in let one = h.0 in omega arith)
 
--- every spelling of a field of the shape has the bits that the shape needs, if it names their number
+-- every encoding of a field of the shape has the bits that the shape needs, if it names their number
 pub length-spelled : (shape : plain.Shape) (field : plain.Field) (list : List Bool) → IsOfShape field shape
     → IsSpelledBy field list → IfSome (need shape) (λ n. length list ≡ n)
 length-spelled (OfNumber w) (Number value width) list shape s = ap length s.2 ∙ length-digits value width ∙ shape

@@ -1,4 +1,4 @@
--- The walk stops at the first wrong field, with its reason.
+-- The walk stops at the first invalid field, with its reason.
 use Rattle.std.proofs.Common.{◌≡◌, ℕ, zero, suc, ◌+◌, ◌<◌, Bool, List, [], ◌∷◌, ◌++◌, take, Ok, Err, Some, refl, sym, ap, subst, ◌∙◌, arith, slice_get}
 use Rattle.std.proofs.lemmas.Option.{same_Some}
 use Rattle.asn1_values.specs.Fields.{Field, Shape, Begins}
@@ -7,7 +7,7 @@ use Rattle.asn1_values.specs.Walk.{field_at, fields_at, in_front, first_and}
 use Rattle.asn1_values.proofs.ExactKinds.{IsExact, Takes, Read, ok_is, err_is_no_ok}
 use Rattle.asn1_values.proofs.ListLemmas.{AreExact, Begins-cons, Begins-none, Begins-split, ReadAll, no_end}
 
--- fields of one more shape begin the list, if others begin what is behind the first
+-- fields of one more shape begin the list, if others begin what is after the first
 pub CanBegin-cons : (list : List Bool) (shape : Shape) (field : Field) (middle : List Bool) (shapes : List Shape)
     → Takes shape list field middle → CanBegin middle shapes → CanBegin list (shape ∷ shapes)
 CanBegin-cons list shape field middle shapes t c =
@@ -99,7 +99,7 @@ fault_later list shape field middle shapes i fault exact e first =
 end_is : (x y : ℕ × Fault) → ◌≡◌ {A = ReadAll} (Err x) (Err y) → x ≡ y
 end_is x y e = cc
 
--- a fault that was met behind a field
+-- a fault that was met after a field
 behind_fault : (field : Field) (r : ReadAll) (x : ℕ × Fault) → in_front field r ≡ Err x → (y : ℕ × Fault) × (r ≡ Err y)
     × ((suc y.0, y.1) ≡ x)
 behind_fault field (Ok y) x e = absurd (no_end (field ∷ y.0, y.1) x e)

@@ -69,7 +69,7 @@ identifier_fits arcs octets contents fit = record {
       ∙ ap (λ (o : List ℕ). 8 * length o) (contents_only arcs s.0 octets s.1 contents);
 }
 
--- what has a misfit has no spelling
+-- what has a misfit has no encoding
 misfit_unfit : (field : Field) (misfit : Misfit) → IsMisfit field misfit → Fits field → ⊥
 misfit_unfit (Number v w) (WidthOver x) m f = let a = m.1 in let b = f.1.0 in omega arith
 misfit_unfit (Number v w) PastWidth m f = let a = m.1 in let b = f.1.1 in omega arith
@@ -137,9 +137,9 @@ names_none fields (errors.ArcCount at) list h s = none_misfit fields at TooFewAr
 names_none fields errors.TooLong list h s = h
 names_none fields errors.Memory list h s = h
 
--- ---- fields that take bits, whether or not they are spelled
+-- ---- fields that take bits, whether or not they are encoded
 
--- what spells a field, it takes
+-- what encodes a field, it takes
 pub spelled_taken : (field : Field) (list : List Bool) → IsSpelledBy field list → TakesBits field list
 spelled_taken (Number value width) list s = s
 spelled_taken (Octets octets) list s = s
@@ -218,7 +218,7 @@ list_pushed list n old new turns_old turns_new len lender written left each low 
   at_most = rw len high;
 }
 
--- and it spells a field
+-- and it encodes a field
 pub one_pushed : (field : Field) (list : List Bool) (old new : BitAppender) (turns_old turns_new : ℕ)
     → IsSpelledBy field list → PushesList list old new turns_old turns_new
     → PushesOne field old new turns_old turns_new
@@ -233,7 +233,7 @@ one_pushed field list old new turns_old turns_new spelled p = record {
   at_most = let a = p.at_most in omega arith;
 }
 
--- ---- a counted integer: an octet, and octets behind it
+-- ---- a counted integer: an octet, and octets after it
 
 -- all of it fits the room
 pub counted_space : (n : ℤ) (octets : List ℕ) (space : ℕ) → IsShortest n octets → HasRoomFor (CountedInteger n) space
@@ -277,7 +277,7 @@ cut_back bits old pushed n e =
     ap (take (length old)) parts ∙ take-append_seam old (pushed ++ drop n bits)
 
 module _ (fields before after : List Field) (field : Field) (cut : fields ≡ before ++ field ∷ after) where
-  -- the fields are spelled, and so is each
+  -- the fields are encoded, and so is each
   pub field_fits : (list : List Bool) → AreSpelledBy fields list → Fits field
   field_fits list s =
       let p : Split IsSpelledBy before (field ∷ after) list =
@@ -285,7 +285,7 @@ module _ (fields before after : List Field) (field : Field) (cut : fields ≡ be
       (subst (λ (fs : List Field). AreSpelledBy fs list) cut s) in
       (p.of_back.0, p.of_back.2)
 
-  -- the spelling of this one lies behind those before it
+  -- the encoding of this one lies after those before it
   pub parts_of : (list : List Bool) → AreSpelledBy fields list → (a : List Bool) × (b : List Bool) × AreSpelledBy before a
       × IsSpelledBy field b × (length a + length b ≤ length list)
   parts_of list s =

@@ -1,4 +1,4 @@
--- Fields, their shapes, and the bits that spell them.
+-- Fields, their shapes, and the bits that encode them.
 use Rattle.std.specs.Prelude.{◌≡◌, ℕ, ℤ, ◌+◌, ◌*◌, ◌^◌, ◌<◌, ◌≤◌, ◌⊎◌, Bool, List, [], ◌∷◌, ◌++◌, length, All, Option, Some, None, ⊤}
 use Rattle.std.specs.List.{AllZip, AllByRecursion}
 use Rattle.asn1_bits.specs.Bits.{digits, bits}
@@ -26,7 +26,7 @@ pub data Shape : Type 0 where
   OfCountedInteger : Shape
   OfIdentifier : ℕ → Shape
 
--- the field is spelled by the bits: a number by its binary digits in its width, octets by their
+-- the field is encoded by the bits: a number by its binary digits in its width, octets by their
 -- bits, bits by themselves, an integer by the bits of its shortest octets (X.690 8.3), a character
 -- by the digits of a code in the width of its alphabet (X.691 30.5), a counted integer by the bits
 -- of one octet with the number of its shortest octets, at most 127, and of these (the short form of
@@ -63,7 +63,7 @@ abbrev pub HasShape : Field → Type 0
 HasShape (Identifier arcs) = (octets : List ℕ) → IsContents arcs octets → length octets < 2 ^ 64
 HasShape field = ⊤
 
--- how many bits spell a field of the shape, where all fields of it have as many
+-- how many bits encode a field of the shape, where all fields of it have as many
 abbrev pub need : Shape → Option ℕ
 need (OfNumber width) = Some width
 need (OfOctets count) = Some (8 * count)
@@ -78,16 +78,16 @@ abbrev pub sum_known : Option ℕ → Option ℕ → Option ℕ
 sum_known (Some m) (Some n) = Some (m + n)
 sum_known m n = None
 
--- how many bits spell fields of the shapes, where each of them has its number of bits
+-- how many bits encode fields of the shapes, where each of them has its number of bits
 abbrev pub needs : List Shape → Option ℕ
 needs [] = Some 0
 needs (shape ∷ shapes) = sum_known (need shape) (needs shapes)
 
--- the list is the concatenation of the fields' spellings
+-- the list is the concatenation of the fields' encodings
 abbrev pub AreSpelledBy : List Field → List Bool → Type 0
 AreSpelledBy fields list = AreJoined IsSpelledBy fields list
 
--- no spelling of a field begins the spelling of another field of the same shape
+-- no encoding of a field begins the encoding of another field of the same shape
 abbrev pub NoSpellingBeginsAnother : Shape → Type 0
 NoSpellingBeginsAnother shape =
     (x y : Field) (front rest : List Bool) → IsOfShape x shape → IsOfShape y shape

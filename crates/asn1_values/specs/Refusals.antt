@@ -8,8 +8,8 @@ use Rattle.asn1_values.specs.declared.bit_fields.error.WriteError.TheVariants as
 use Rattle.asn1_values.specs.Fields.{Field, Shape, AreSpelledBy}
 use Rattle.asn1_values.specs.Wrong.{NumberWidth, NotInteger, Short, NoCharacter, NoLength, NotIdentifier, ArcOver, WidthOver, PastWidth, NotInAlphabet, PastLength, TooFewArcs, CanBegin, IsFirstFault, IsFirstMisfit}
 
--- reading fields of these shapes is refused by the first wrong field, with its reason; where none
--- is wrong, for want of memory
+-- the error of reading fields of these shapes names the first invalid field, with its reason; if none
+-- is invalid, it is `Memory`
 abbrev pub IsReadRefusal : List Bool → List Shape → ReadError → Type 0
 IsReadRefusal list shapes (reading.NumberWidth field width) = IsFirstFault list shapes field (NumberWidth width)
 IsReadRefusal list shapes (reading.Integer field) = IsFirstFault list shapes field NotInteger
@@ -20,9 +20,8 @@ IsReadRefusal list shapes (reading.Identifier field) = IsFirstFault list shapes 
 IsReadRefusal list shapes (reading.Arc field) = IsFirstFault list shapes field ArcOver
 IsReadRefusal list shapes reading.Memory = CanBegin list shapes
 
--- writing these fields behind n bits is refused by the first that doesn't fit, with its reason;
--- where all fit, for the new length; and for want of memory only where the new length fits and an
--- octet is added
+-- the error of writing these fields after n bits names the first that doesn't fit, with its reason;
+-- if all fit, the new length; and it is `Memory` only if the new length fits and an octet is added
 abbrev pub IsWriteRefusal : ℕ → List Field → WriteError → Type 0
 IsWriteRefusal n fields (writing.NumberWidth field width) = IsFirstMisfit fields field (WidthOver width)
 IsWriteRefusal n fields (writing.Number field) = IsFirstMisfit fields field PastWidth
@@ -35,12 +34,12 @@ IsWriteRefusal n fields writing.Memory =
     (list : List Bool) × AreSpelledBy fields list × (n + length list < 2 ^ 64)
     × (octets_for n < octets_for (n + length list))
 
--- a place behind n bits, or one that usize can't count
+-- an index after n bits, or one that usize can't count
 abbrev pub IsPast : ℕ → ℕ → Type 0
 IsPast n place = (n < place) ⊎ (2 ^ 64 ≤ place)
 
--- writing these fields over n bits, from a place on, is refused by the first that doesn't fit, with
--- its reason; where all fit, for the place that they end at; and never for want of memory
+-- the error of writing these fields over n bits, from an index on, names the first that doesn't fit, with
+-- its reason; if all fit, the index that they end at; and it is never `Memory`
 abbrev pub IsWriteAtRefusal : ℕ → ℕ → List Field → WriteError → Type 0
 IsWriteAtRefusal n place fields (writing.NumberWidth field width) = IsFirstMisfit fields field (WidthOver width)
 IsWriteAtRefusal n place fields (writing.Number field) = IsFirstMisfit fields field PastWidth

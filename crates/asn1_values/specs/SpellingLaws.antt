@@ -1,4 +1,4 @@
--- Laws of spellings: fields have one, where no alphabet gives a character two codes.
+-- Laws of encodings: fields have one, where no alphabet gives a character two codes.
 use Rattle.std.proofs.Common.{◌≡◌, ℕ, List, [], ◌∷◌, ◌++◌, Bool, length, sym, ap, ◌∙◌}
 use Rattle.std.specs.Prelude.{ℤ}
 use Rattle.asn1_bits.specs.Bits.{digits, bits}
@@ -12,7 +12,7 @@ use Rattle.asn1_values.specs.Fields.{IsSpelledBy, AreSpelledBy, HasOneSpelling, 
 pub same_shortest : (n : ℤ) (o p : List ℕ) → IsShortest n o → IsShortest n p → o ≡ p
 same_shortest n o p s t = let one = one_shortest_list n in one.2 o s ∙ sym (one.2 p t)
 
--- a field has one spelling
+-- a field has one encoding
 one_spelling : (f : plain.Field) (a b : List Bool) → HasOneSpelling f → IsSpelledBy f a → IsSpelledBy f b → a ≡ b
 one_spelling (Number value width) a b one p q = p.2 ∙ sym q.2
 one_spelling (Octets octets) a b one p q = p.1 ∙ sym q.1

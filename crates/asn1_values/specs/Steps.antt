@@ -106,7 +106,7 @@ pub record ExaminesAll (shapes : List Shape) (old : BitReader) (result : Result 
   pub ok : OnOk result (IsOk (fields_at shapes (bits_left old)))
   pub err : IfErr result (λ e. past_all 0 (fields_at shapes (bits_left old)) ≡ Err e)
 
--- a field of the shape was read from the front of the bits that were left, and stands behind the
+-- a field of the shape was read from the front of the bits that were left, and is after the
 -- others
 pub record Appends (shape : Shape) (old new : BitReader) (before after : List InMemory) : Type 0 where
   pub field : InMemory
@@ -157,11 +157,11 @@ NamesFirstMisfit fields (writing.ArcCount at) = IsFirstMisfit fields at TooFewAr
 NamesFirstMisfit fields writing.TooLong = ⊥
 NamesFirstMisfit fields writing.Memory = ⊥
 
--- how a field is spelled, or takes bits
+-- how a field is encoded, or takes bits
 abbrev pub Spelling : Type 1
 Spelling = Field → List Bool → Type 0
 
--- the field takes the bits: they spell it, or they are as many as spell a character of its
+-- the field takes the bits: they encode it, or they are as many as encode a character of its
 -- alphabet, which may lack it
 abbrev pub TakesBits : Spelling
 TakesBits (Character alphabet c) list = length list ≡ alphabet.width
@@ -190,7 +190,7 @@ pub record EndsAt (P : Spelling) (start : ℕ) (fields : List Field) (n : ℕ) :
   pub each : (others : List Bool) → AreJoined P fields others → start + length others ≡ end
   pub capped : n ≡ min end (2 ^ 128 - 1)
 
--- the fields fit, and end there behind the start; or the error names the first that doesn't fit
+-- the fields fit, and end there after the start; or the error names the first that doesn't fit
 pub record MeasuresAll (start : ℕ) (fields : List Field) (result : Result ℕ WriteError) : Type 0 where
   pub ok : IfOk result (EndsAt IsSpelledBy start fields)
   pub err : IfErr result (NamesFirstMisfit fields)
@@ -206,25 +206,25 @@ pub record HaveRoom (fields : List Field) (space : ℕ) : Type 0 where
   pub joined : AreJoined TakesBits fields list
   pub each : (others : List Bool) → AreJoined TakesBits fields others → length others ≤ space
 
--- there is room for the bits of one field, which has some, behind so many others
+-- there is room for the bits of one field, which has some, after so many others
 pub record HasRoomBehind (field : Field) (width space : ℕ) : Type 0 where
   pub some : (list : List Bool) × TakesBits field list
   pub each : (list : List Bool) → TakesBits field list → width + length list ≤ space
 
--- if the fields are spelled, and the new length fits, then an octet is added to n bits
+-- if the fields are encoded, and the new length fits, then an octet is added to n bits
 abbrev pub CanBeRefused : ℕ → List Field → Type 0
 CanBeRefused n fields = (list : List Bool) → AreSpelledBy fields list → n + length list < 2 ^ 64
     → octets_for n < octets_for (n + length list)
 
--- the error is a refusal of the fields behind n bits, and no other but want of memory is one; where
--- all fit, it tells whether the new length does
+-- the error is one of writing the fields after n bits, and there is no other but `Memory`; if all fit,
+-- it tells whether the new length does
 pub record IsTheRefusal (n : ℕ) (fields : List Field) (error : WriteError) : Type 0 where
   pub refusal : IsWriteRefusal n fields error
   pub named : (e : WriteError) → e ≢ writing.Memory → IsWriteRefusal n fields e → error ≡ e
   pub too_long : (list : List Bool) → AreSpelledBy fields list → 2 ^ 64 ≤ n + length list → error ≡ writing.TooLong
   pub memory : (list : List Bool) → AreSpelledBy fields list → n + length list < 2 ^ 64 → error ≡ writing.Memory
 
--- the spellings of the fields were pushed, one after another
+-- the encodings of the fields were pushed, one after another
 pub record PushesAll (fields : List Field) (old new : BitAppender) : Type 0 where
   pub list : List Bool
   pub spelled : AreSpelledBy fields list
@@ -240,7 +240,7 @@ pub record PushesList (list : List Bool) (old new : BitAppender) (turns_old turn
   pub at_least : turns_old + div_ceil (length list) 64 ≤ turns_new
   pub at_most : turns_new ≤ turns_old + turns_for (length list)
 
--- the spelling of the field was pushed, in its turns, and the storage is the same
+-- the encoding of the field was pushed, in its turns, and the storage is the same
 pub record PushesOne (field : Field) (old new : BitAppender) (turns_old turns_new : ℕ) : Type 0 where
   pub list : List Bool
   pub spelled : IsSpelledBy field list
@@ -268,7 +268,7 @@ pub record Gathers (list : List Bool) (old new : BitAppender) (word width word_n
   pub at_least : turns_old + div_ceil (length front) 64 ≤ turns_new
   pub at_most : turns_new + turns_for width_new ≤ turns_old + turns_for width + length list / 64 + 8
 
--- the spelling of the field was taken so
+-- the encoding of the field was taken so
 pub record PushesBehind (field : Field) (old new : BitAppender)
     (word width word_new width_new turns_old turns_new : ℕ) : Type 0 where
   pub list : List Bool
@@ -281,26 +281,26 @@ pub record PushesNone (field : Field) (old new : BitAppender) : Type 0 where
   pub kept : bits_written new ≡ bits_written old
   pub lacking : Fits field → ⊥
 
--- the spelling of the field was taken so; or nothing was pushed, since the field does not fit
+-- the encoding of the field was taken so; or nothing was pushed, since the field does not fit
 pub record PushesIfFits (field : Field) (old new : BitAppender)
     (word width word_new width_new turns_old turns_new : ℕ) (result : Option Unit) : Type 0 where
   pub pushed : OnSome result (PushesBehind field old new word width word_new width_new turns_old turns_new)
   pub refused : IfNone result (PushesNone field old new)
 
--- so many turns were taken for the fields, whichever list spells them
+-- so many turns were taken for the fields, whichever list encodes them
 pub record TakeTurns (fields : List Field) (old new : ℕ) : Type 0 where
   pub at_least : (list : List Bool) → AreSpelledBy fields list → old + div_ceil (length list) 64 ≤ new
   pub at_most : (list : List Bool) → AreSpelledBy fields list → new ≤ old + length list / 64 + 8 * length fields
 
--- the fields can be appended to n bits: in so many more is room for them, each list that spells them
+-- the fields can be appended to n bits: in so many more is room for them, each list that encodes them
 -- is as long, and usize counts the sum
 pub record CanBeAppended (fields : List Field) (n additional : ℕ) : Type 0 where
   pub room : HaveRoom fields additional
   pub all : (list : List Bool) → AreSpelledBy fields list → length list ≡ additional
   pub fits : n + additional < 2 ^ 64
 
--- the spellings of the fields were appended, in their turns; or nothing has changed, and the fields
--- can be refused
+-- the encodings of the fields were appended, in their turns; or nothing has changed, and the fields
+-- can fail
 pub record AppendsFields (fields : List Field) (old new : List Bool) (turns_old turns_new : ℕ) (result : Option Unit)
     : Type 0 where
   pub written : OnSome result ((list : List Bool) × AreSpelledBy fields list × (new ≡ old ++ list))
@@ -310,7 +310,7 @@ pub record AppendsFields (fields : List Field) (old new : List Bool) (turns_old 
   pub unchanged : IfNone result (new ≡ old)
   pub uncounted : IfNone result (turns_new ≡ turns_old)
 
--- the spellings of the fields were pushed, in their turns; or some bits, since a field does not fit
+-- the encodings of the fields were pushed, in their turns; or some bits, since a field does not fit
 pub record PushesAllIfFit (fields : List Field) (old new : BitAppender) (turns_old turns_new : ℕ)
     (result : Option Unit) : Type 0 where
   pub lender : lender_of new ≡ lender_of old
@@ -320,7 +320,7 @@ pub record PushesAllIfFit (fields : List Field) (old new : BitAppender) (turns_o
   pub each_turn_places : OnSome result (turns_new + words_placed old ≡ turns_old + words_placed new)
   pub lacking : IfNone result ((list : List Bool) → AreSpelledBy fields list → ⊥)
 
--- ---- writing over what is there
+-- ---- writing over the old bits
 
 -- bits that end at the place end within n bits, and usize counts it
 abbrev pub IsReached : ℕ → ℕ → Type 0
@@ -347,11 +347,11 @@ pub record WritesOver (list : List Bool) (place : ℕ) (old new : List Bool) (ne
   pub written : new ≡ overwritten old place list
   pub end : next ≡ place + length list
 
--- the spelling of the field was written over them
+-- the encoding of the field was written over them
 abbrev pub Overwrites : Field → ℕ → List Bool → List Bool → ℕ → Type 0
 Overwrites field place old new next = (list : List Bool) × IsSpelledBy field list × WritesOver list place old new next
 
--- the spellings of the fields were written over them, one after another
+-- the encodings of the fields were written over them, one after another
 abbrev pub OverwritesAll : List Field → ℕ → List Bool → List Bool → ℕ → Type 0
 OverwritesAll fields place old new next =
     (list : List Bool) × AreSpelledBy fields list × WritesOver list place old new next

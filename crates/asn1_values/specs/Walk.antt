@@ -56,7 +56,7 @@ abbrev pub counted : Result (Field × List Bool) Fault → Result (Field × List
 counted (Ok x) = Ok (as_counted x.0, x.1)
 counted (Err fault) = Err fault
 
--- a counted integer, behind the octet that says of how many octets
+-- a counted integer, after the octet that says of how many octets
 unfoldable pub counted_at : ℕ → List Bool → Result (Field × List Bool) Fault
 counted_at k left = if k == 0 || nat_lt 127 k then Err (NoLength k) else counted (integer_at k left)
 
@@ -96,7 +96,7 @@ field_at OfCountedInteger list =
 field_at (OfIdentifier count) list =
     if count == 0 then Err NotIdentifier else cut_at (8 * count) (identifier_content count) list
 
--- a field in front of others, whose faults are then one place further on
+-- a field before others, whose faults are then one place further on
 abbrev pub in_front : Field → Result (List Field × List Bool) (ℕ × Fault) → Result (List Field × List Bool) (ℕ × Fault)
 in_front field (Ok x) = Ok (field ∷ x.0, x.1)
 in_front field (Err e) = Err (suc e.0, e.1)

@@ -1,4 +1,4 @@
--- Words of the crates below, passed on for definitions and contracts that stand on this crate.
+-- Words of the crates below, re-exported for definitions and contracts that depend on this crate.
 -- Declares nothing.
 unfoldable pub use Rattle.asn1_bits.specs.Bits.{bits, digits, overwritten}
 pub use Rattle.asn1_bits.specs.Bits.{number, octets_for, padded}

@@ -9,7 +9,7 @@ use Rattle.asn1_values.specs.Fields.{Field, Shape, IsSpelledBy, Begins, Number, 
 
 -- ---- reading
 
--- what is wrong at a field's place in a list of bits
+-- the fault at a field's place in a list of bits
 pub data Fault : Type 0 where
   NumberWidth : ℕ → Fault
   NotInteger : Fault
@@ -83,7 +83,7 @@ pub record IsFirstFault (list : List Bool) (shapes : List Shape) (i : ℕ) (faul
 
 -- ---- writing
 
--- why a field has no spelling
+-- why a field has no encoding
 pub data Misfit : Type 0 where
   WidthOver : ℕ → Misfit
   PastWidth : Misfit
@@ -91,7 +91,7 @@ pub data Misfit : Type 0 where
   PastLength : Misfit
   TooFewArcs : Misfit
 
--- some bits spell the field
+-- some bits encode the field
 abbrev pub Fits : Field → Type 0
 Fits field = (list : List Bool) × IsSpelledBy field list
 

@@ -1,5 +1,5 @@
 //! Bit fields: numbers, octets, bits, integers, counted integers, identifiers and characters,
-//! written one after another behind the bits of a buffer or over those of octets, and read back
+//! written one after another after the bits of a buffer or over those of octets, and read back
 //! from any bit of a storage.
 
 mod bits;

@@ -1,7 +1,7 @@
 //! The value layer under ASN.1 codecs: whole numbers, object identifiers, octet strings, restricted
 //! character strings, bits, and the reading and writing of bit fields that are made of them.
 //!
-//! [`bit_fields`] writes fields one after another behind the bits of a buffer, and reads them back
+//! [`bit_fields`] writes fields one after another after the bits of a buffer, and reads them back
 //! from any bit of any storage. The other names are those of the crates below, which are passed on.
 #![tactic(auto)]
 

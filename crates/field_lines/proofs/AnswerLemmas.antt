@@ -13,7 +13,7 @@ use Rattle.field_lines.specs.Output.{line}
 use Rattle.field_lines.specs.Answer.{Answer, IsPrinted, IsBitsAnswer, IsStart, IsStartAnswer, IsOctetsAnswer, IsShapesAnswer, IsAnswer, IsOnly, OrElse, answer_in}
 use Rattle.field_lines.proofs.OneLemmas.{one_input, one_words, one_decoded, one_start, only_next, only_none}
 
--- the same text, spelled otherwise
+-- the same text, encoded otherwise
 pub same_text : (r : Result (String Global) AllocError) (a b : List ℕ) → IfOk r (λ text. string_bytes text ≡ a) → a ≡ b
     → IfOk r (λ text. string_bytes text ≡ b)
 same_text (Ok text) a b h e = h ∙ e

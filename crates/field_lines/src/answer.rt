@@ -19,12 +19,12 @@ use std::alloc::{AllocError, Global};
 pub struct Answer {
     /// The lines, each with its LF.
     pub text: String,
-    /// 0 where fields were read, 1 where the input is refused.
+    /// 0 if fields were read, 1 after an error in the input.
     pub status: u8,
 }
 
 /// Answers three lines: the shapes of fields, octets in hexadecimal, and the bit at which the first
-/// field begins. The first line that is wrong decides. An error is want of memory.
+/// field begins. The first invalid line decides. The only error is out of memory.
 pub fn answer_to(alloc: Global, text: &[u8]) -> Result<Answer, AllocError>
     // It is an answer to the text, which has no other.
     ensures answer { IfOk result (λ answer. IsOnly (IsAnswer text.now) (answer_in answer)) }
@@ -45,7 +45,7 @@ pub fn answer_to(alloc: Global, text: &[u8]) -> Result<Answer, AllocError>
     fields_of(alloc, view, shapes.as_slice())
 }
 
-/// The one line that refuses an input.
+/// Returns the one line that says why an input is invalid.
 fn refusal(alloc: Global, text: &str) -> Result<Answer, AllocError>
     ensures { IfOk result
         (λ answer. answer_in answer ≡ record { text = line text.now; status = 1 }) }
@@ -56,8 +56,8 @@ fn refusal(alloc: Global, text: &str) -> Result<Answer, AllocError>
     })
 }
 
-/// The bits of the octets from the first bit on that the line names; None for another line. Octets
-/// whose bits are more than `usize::MAX` are want of memory.
+/// Returns the bits of the octets from the first bit on that the line names; `None` for another
+/// line. Octets of more than `usize::MAX` bits are an error as out of memory is.
 fn view_from<'a>(octets: &'a [u8], line: &[u8]) -> Result<Option<BitStr<'a>>, AllocError>
     ensures { IfOk result (λ found. MatchOption found
         ((first : ℕ) → ¬ (IsStart line.now octets.now first))

@@ -56,7 +56,7 @@ fn last_line(text: &[u8]) -> Option<&[u8]>
     if rest.is_empty() { Some(line) } else { None }
 }
 
-/// What stands before the first such octet, and what stands behind it; None where there is none.
+/// What stands before the first such octet, and what stands after it; None where there is none.
 fn split_once(text: &[u8], separator: u8) -> Option<(&[u8], &[u8])>
     ensures none { IfNone result
         (slice_split (λ c. c == separator) text.now ≡ text.now ∷ []) }
@@ -112,7 +112,7 @@ fn shape(word: &[u8], numeric: &CharacterAlphabet<'static>) -> Option<Shape<'sta
 }
 
 /// The shape of a letter alone: `a`, a character of the `numeric` alphabet, or `c`, an integer
-/// behind the number of its octets.
+/// after the number of its octets.
 fn lone_shape(letter: u8, numeric: &CharacterAlphabet<'static>) -> Option<Shape<'static>>
     requires { alphabet_of numeric.now ≡ effective Numeric None false }
     ensures { MatchOption result ((shape : plain.Shape) → ¬ (IsWord (letter ∷ []) shape))
@@ -163,7 +163,7 @@ pub fn shapes(alloc: Global, line: &[u8]) -> Result<Option<Vec<Shape<'static>>>,
     Ok(Some(shapes))
 }
 
-/// The octets that the line spells in hexadecimal of either case; None for another line.
+/// Returns the octets that the line has in hexadecimal of either case; `None` for another line.
 pub fn octets(alloc: Global, line: &[u8]) -> Result<Option<Vec<u8>>, AllocError>
     ensures { IfOk result (λ found. MatchOption found
         ((octets : List ℕ) → ¬ (decode_of line.now ≡ Ok octets))

@@ -39,7 +39,7 @@ impl<'a> BitStr<'a> {
         }
     }
 
-    /// `split_at` for fewer than 256 bits: with so few no sum of places passes `usize`.
+    /// `split_at` for fewer than 256 bits: with so few no sum of places exceeds `usize`.
     #[inline(always)]
     fn split_near(&self, at: usize) -> (BitStr<'a>, BitStr<'a>)
         requires near { at < 256 }

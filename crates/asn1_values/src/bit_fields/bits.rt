@@ -24,7 +24,7 @@ pub(super) fn fitting_len(bits: &BitStr<'_>) -> u128
     bits.len() as u128
 }
 
-/// Gathers at most 32 bits, or pushes more behind those that are gathered.
+/// Gathers at most 32 bits, or pushes more after those that are gathered.
 #[inline(always)]
 pub(super) fn push(
     appender: &mut BitAppender<'_>,
@@ -72,7 +72,7 @@ fn push_few(appender: &mut BitAppender<'_>, bits: &BitStr<'_>, turns: &mut Turns
     appender.push_number(read_u128(*bits), bits.len(), turns);
 }
 
-/// Writes bits over what is there, and answers with the bit behind them.
+/// Writes bits over the old bits, and returns the bit after them.
 pub(super) fn overwrite(target: &mut [u8], position: usize, view: &BitStr<'_>) -> usize
     requires { FitsWithin (8 * length target.old) position (plain.Bits (bits_of view.now)) }
     ensures { Overwrites (plain.Bits (bits_of view.now)) position (bits target.old)
@@ -81,7 +81,7 @@ pub(super) fn overwrite(target: &mut [u8], position: usize, view: &BitStr<'_>) -
     overwrite_view(target, position, *view)
 }
 
-/// Writes the bits of the view over what is there, and answers with the bit behind them. Few bits
+/// Writes the bits of the view over the old bits, and returns the bit after them. Few bits
 /// are written as a number, which clears nothing first.
 pub(super) fn overwrite_view(target: &mut [u8], position: usize, view: BitStr<'_>) -> usize
     requires { IsReached (8 * length target.old) (position + (view_of view).len) }

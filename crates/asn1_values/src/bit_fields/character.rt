@@ -56,7 +56,7 @@ pub(super) fn push(
     }
 }
 
-/// Writes a code of a character over what is there, and answers with the bit behind it.
+/// Writes a code of a character over the old bits, and returns the bit after it.
 pub(super) fn overwrite(
     target: &mut [u8],
     position: usize,

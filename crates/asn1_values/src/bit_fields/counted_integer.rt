@@ -1,4 +1,4 @@
-//! An integer as a field, behind the octet that counts its shortest octets (the short form of a
+//! An integer as a field, after the octet that counts its shortest octets (the short form of a
 //! length, X.690 8.1.3.4).
 
 ghost use Rattle.std.specs.Prelude.{Err, ◌+◌, ◌*◌, ◌<◌, length, IfOk, Ok, take, vec_len, vec_capacity};
@@ -41,7 +41,7 @@ pub(super) fn push(appender: &mut BitAppender<'_>, number: &Integer, turns: &mut
     push_shortest(appender, number, turns);
 }
 
-/// Writes a counted integer over what is there, and answers with the bit behind it.
+/// Writes a counted integer over the old bits, and returns the bit after it.
 pub(super) fn overwrite(target: &mut [u8], position: usize, number: &Integer) -> usize
     requires { FitsWithin (8 * length target.old) position (plain.CountedInteger number.now) }
     ensures { Overwrites (plain.CountedInteger number.now) position (bits target.old)
@@ -51,7 +51,7 @@ pub(super) fn overwrite(target: &mut [u8], position: usize, number: &Integer) ->
     overwrite_shortest(target, next, number)
 }
 
-/// Goes past a counted integer, and gives the octets behind its first, if that is 1 to 127, and so
+/// Goes past a counted integer, and gives the octets after its first, if that is 1 to 127, and so
 /// many octets are the shortest of a number.
 #[inline(always)]
 pub(super) fn examine<'a>(

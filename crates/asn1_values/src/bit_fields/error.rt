@@ -15,8 +15,8 @@ pub enum WriteError {
     /// A character that its alphabet has no code for.
     #[error("field {field}: character {character} is not in the alphabet")]
     Character { field: usize, character: u32 },
-    /// Every field fits, but the new length passes `usize::MAX` bits, or the fields would end
-    /// behind the octets that are written over.
+    /// Every field fits, but the new length exceeds `usize::MAX` bits, or the fields would end
+    /// after the octets that are written over.
     #[error("too many bits")]
     TooLong,
     /// Every field fits, but there is no memory.
@@ -54,7 +54,7 @@ pub enum ReadError {
     /// No octets, or octets that are the contents of no identifier, however large its arcs.
     #[error("field {field}: not the contents of an identifier")]
     Identifier { field: usize },
-    /// The contents of an identifier, one of whose arcs passes `u32`.
+    /// The contents of an identifier, one of whose arcs exceeds `u32`.
     #[error("field {field}: an arc is past 32 bits")]
     Arc { field: usize },
 }

@@ -24,7 +24,7 @@ impl Gathered {
         Gathered { word: 0, width: 0 }
     }
 
-    /// Gathers a number of `width` digits behind the others, which are pushed first if the word has
+    /// Gathers a number of `width` digits after the others, which are pushed first if the word has
     /// no room for all.
     #[inline(always)]
     pub(super) fn add(

@@ -75,7 +75,7 @@ fn push_each(appender: &mut BitAppender<'_>, octets: OidContents<'_>, turns: &mu
     appender.push_wide(word, width, turns);
 }
 
-/// Writes the contents of an identifier over what is there, and answers with the bit behind them.
+/// Writes the contents of an identifier over the old bits, and returns the bit after them.
 pub(super) fn overwrite(target: &mut [u8], position: usize, oid: &ObjectIdentifier) -> usize
     requires { FitsWithin (8 * length target.old) position (plain.Identifier oid.now) }
     ensures { Overwrites (plain.Identifier oid.now) position (bits target.old) (bits target.new)
@@ -87,7 +87,7 @@ pub(super) fn overwrite(target: &mut [u8], position: usize, oid: &ObjectIdentifi
     }
 }
 
-/// Writes octets one by one, and answers with the bit behind them.
+/// Writes octets one by one, and returns the bit after them.
 fn overwrite_each(target: &mut [u8], position: usize, octets: OidContents<'_>) -> usize
     requires { IsReached (8 * length target.old) (position + 8 * length octets) }
     ensures { WritesOver (bits octets.entry) position (bits target.old) (bits target.new) result }

@@ -66,7 +66,7 @@ fn push_long(appender: &mut BitAppender<'_>, number: &Integer, turns: &mut Turns
     appender.push_octets(number.signed_octets().as_ref(), turns);
 }
 
-/// Writes an integer over what is there, and answers with the bit behind it.
+/// Writes an integer over the old bits, and returns the bit after it.
 pub(super) fn overwrite(target: &mut [u8], position: usize, number: &Integer) -> usize
     requires { FitsWithin (8 * length target.old) position (plain.Integer number.now) }
     ensures { Overwrites (plain.Integer number.now) position (bits target.old) (bits target.new)
@@ -75,7 +75,7 @@ pub(super) fn overwrite(target: &mut [u8], position: usize, number: &Integer) ->
     overwrite_shortest(target, position, number)
 }
 
-/// Writes the shortest octets of a number over what is there, and answers with the bit behind them:
+/// Writes the shortest octets of a number over the old bits, and returns the bit after them:
 /// up to sixteen of them as one number.
 pub(super) fn overwrite_shortest(target: &mut [u8], position: usize, number: &Integer) -> usize
     requires { (octets : List ℕ) → IsShortest number.now octets

@@ -50,7 +50,7 @@ fn fitting_wide(value: u128, width: usize, place: usize) -> Result<u128, WriteEr
     Ok(width as u128)
 }
 
-/// Gathers a number of at most 21 bits, of which three fit a word, or pushes it behind those that
+/// Gathers a number of at most 21 bits, of which three fit a word, or pushes it after those that
 /// are gathered.
 #[inline(always)]
 pub(super) fn push(
@@ -72,7 +72,7 @@ pub(super) fn push(
     }
 }
 
-/// Writes a number over what is there, and answers with the bit behind it.
+/// Writes a number over the old bits, and returns the bit after it.
 pub(super) fn overwrite(target: &mut [u8], position: usize, value: u128, width: usize) -> usize
     requires { FitsWithin (8 * length target.old) position (plain.Number value width) }
     ensures { Overwrites (plain.Number value width) position (bits target.old) (bits target.new)
@@ -81,8 +81,8 @@ pub(super) fn overwrite(target: &mut [u8], position: usize, value: u128, width: 
     overwrite_digits(target, position, value, width)
 }
 
-/// Writes the lowest `width` binary digits of a number over what is there, and answers with the bit
-/// behind them.
+/// Writes the lowest `width` binary digits of a number over the old bits, and returns the bit
+/// after them.
 pub(super) fn overwrite_digits(
     target: &mut [u8],
     position: usize,

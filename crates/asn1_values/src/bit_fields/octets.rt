@@ -25,7 +25,7 @@ pub(super) fn fitting_len(octets: &Octets<'_>) -> u128
     8 * octets.as_ref().len() as u128
 }
 
-/// Gathers at most four octets, or pushes more behind what is gathered.
+/// Gathers at most four octets, or pushes more after what is gathered.
 #[inline(always)]
 pub(super) fn push(
     appender: &mut BitAppender<'_>,
@@ -46,7 +46,7 @@ pub(super) fn push(
     bits::push(appender, gathered, &bits, turns);
 }
 
-/// Writes octets over what is there, and answers with the bit behind them.
+/// Writes octets over the old bits, and returns the bit after them.
 pub(super) fn overwrite(target: &mut [u8], position: usize, octets: &Octets<'_>) -> usize
     requires { FitsWithin (8 * length target.old) position (plain.Octets (octets_in octets.now)) }
     ensures { Overwrites (plain.Octets (octets_in octets.now)) position (bits target.old)
@@ -55,7 +55,7 @@ pub(super) fn overwrite(target: &mut [u8], position: usize, octets: &Octets<'_>)
     overwrite_octets(target, position, octets.as_ref())
 }
 
-/// Writes the bits of octets over what is there, and answers with the bit behind them.
+/// Writes the bits of octets over the old bits, and returns the bit after them.
 pub(super) fn overwrite_octets(target: &mut [u8], position: usize, octets: &[u8]) -> usize
     requires { IsReached (8 * length target.old) (position + 8 * length octets.now) }
     ensures { WritesOver (bits octets.now) position (bits target.old) (bits target.new) result }

@@ -21,10 +21,10 @@ use super::{bits, character, counted_integer, identifier, integer, number, octet
 use asn1_bits::BitReader;
 use std::alloc::Global;
 
-/// Reads a field of each shape from the front of the reader, which moves past them. If one is
-/// refused, the reader stays. It first asks for room for all fields; copied octets, long integers
-/// and identifiers allocate their own. `Memory` is the last refusal: if an allocation fails, all
-/// fields are examined again, without memory.
+/// Reads a field of each shape from the front of the reader, which is left after them. If a field
+/// is invalid, the reader is unchanged. It first allocates room for all fields; copied octets, long
+/// integers and identifiers allocate their own. `Memory` is the last error: if an allocation fails,
+/// all fields are examined again, without memory.
 pub fn read_fields<'a, 's>(
     alloc: Global,
     reader: &mut BitReader<'a>,
@@ -33,7 +33,7 @@ pub fn read_fields<'a, 's>(
     // The fields that are given begin the reader's bits, and what is left follows.
     ensures found { IfOk result (λ fields. Begins (bits_left reader.old) (plain_shapes shapes.now)
         (plain_fields fields.items) (bits_left reader.new)) }
-    // No other fields begin them, and nothing else can be left.
+    // No other fields begin them, and no other bits can be left.
     ensures only { IfOk result (λ fields. (others : List plain.Field) (rest : List Bool)
         → Begins (bits_left reader.old) (plain_shapes shapes.now) others rest
         → (plain_fields fields.items ≡ others) × (bits_left reader.new ≡ rest)) }
@@ -58,8 +58,8 @@ pub fn read_fields<'a, 's>(
     // view of it, from their own first bit on.
     ensures places { IfOk result (λ fields. LieFrom (view_left reader.old) fields.items) }
 
-    // A refusal names the first wrong field, with its reason; where none is wrong, it is want of
-    // memory. The refusal is unique: if a field is wrong, exactly that field is named, independent
+    // An error names the first invalid field, with its reason; if none is invalid, it is
+    // `Memory`. The error is unique: if a field is invalid, exactly that field is named, independent
     // of allocation.
     ensures refused { IfErr result
         (IsReadRefusal (bits_left reader.old) (plain_shapes shapes.now)) }
@@ -68,8 +68,8 @@ pub fn read_fields<'a, 's>(
     ensures unchanged { OnErr result (view_left reader.new ≡ view_left reader.old) }
     ensures no_shapes { shapes.now ≡ [] → IsOk result }
 
-    // No spelling of a field begins that of another field of the same shape. So no concatenation
-    // for these shapes begins another one of other fields, and each spells one list of fields.
+    // No encoding of a field begins that of another field of the same shape. So no concatenation
+    // for these shapes begins another one of other fields, and each encodes one list of fields.
     ensures each_alone { AllByRecursion NoSpellingBeginsAnother (plain_shapes shapes.now) }
     ensures none_begins_another { NoneBeginsAnother (plain_shapes shapes.now) }
     ensures one_list { (xs ys : List plain.Field) (list : List Bool)
@@ -94,7 +94,7 @@ pub fn read_fields<'a, 's>(
     }
 }
 
-/// Picks the refusal to report. If allocation failed, it examines the fields without memory, since
+/// Picks the error to report. If allocation failed, it examines the fields without memory, since
 /// a wrong field takes precedence over `Memory`.
 #[cold]
 #[inline(never)]

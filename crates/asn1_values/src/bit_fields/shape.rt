@@ -8,7 +8,7 @@ ghost use Rattle.asn1_values.specs.Plain.{plain_field, plain_shape};
 use super::field::Field;
 use asn1_alphabets::CharacterAlphabet;
 
-/// What a reader has to know of a field: its kind, and its width, count or alphabet.
+/// What a reader must know of a field: its kind, and its width, count or alphabet.
 #[derive(Clone, Copy, Debug)]
 pub enum Shape<'s> {
     /// A number of `width` bits.
@@ -21,7 +21,7 @@ pub enum Shape<'s> {
     Integer { octets: usize },
     /// A character of the alphabet.
     Character { alphabet: CharacterAlphabet<'s> },
-    /// An integer behind an octet that counts its octets.
+    /// An integer after an octet that counts its octets.
     CountedInteger,
     /// An identifier whose contents have so many octets.
     Oid { octets: usize },
@@ -32,7 +32,7 @@ pub fn shape_of<'s>(field: &Field<'_, 's>) -> Shape<'s>
     // The octets of an identifier's contents are so few that their number fits `usize`.
     requires { HasShape (plain_field field.now) }
     ensures shape { IsOfShape (plain_field field.now) (plain_shape result) }
-    // If `need` of the shape is `Some n`, every spelling of the field has exactly n bits.
+    // If `need` of the shape is `Some n`, every encoding of the field has exactly n bits.
     ensures need { IfSome (need (plain_shape result)) (λ n. (field : plain.Field) (list : List Bool)
         → IsOfShape field (plain_shape result) → IsSpelledBy field list → length list ≡ n) }
 {

@@ -17,11 +17,11 @@ use super::{bits, character, counted_integer, identifier, integer, number, octet
 use asn1_bits::{BitAppender, BitBuffer, Turns};
 
 /// Appends the fields' bits to the buffer, one after another, in one growth. If a field does not
-/// fit, or memory fails, the buffer's bits stay; want of memory is the last refusal. Codes of
-/// characters are looked up after the growth, so a list that is refused for a character may leave
-/// the buffer with more capacity.
+/// fit, or if out of memory, the buffer's bits are unchanged; `Memory` is the last error. Codes of
+/// characters are looked up after the growth, so after an error for a character the buffer may have
+/// more capacity.
 pub fn write_fields(buffer: &mut BitBuffer, fields: &[Field<'_, '_>]) -> Result<(), WriteError>
-    // The old bits are followed by a concatenation of the fields' spellings.
+    // The old bits are followed by a concatenation of the fields' encodings.
     ensures written { OnOk result ((list : List Bool) × AreSpelledBy (plain_fields fields.now) list
         × (buffer.new ≡ buffer.old ++ list)) }
     // It is the one concatenation, where no alphabet gives a character two codes.
@@ -29,8 +29,8 @@ pub fn write_fields(buffer: &mut BitBuffer, fields: &[Field<'_, '_>]) -> Result<
         → (list : List Bool) → AreSpelledBy (plain_fields fields.now) list
         → OnOk result (buffer.new ≡ buffer.old ++ list) }
 
-    // Where all fit, it is refused for the new length exactly where that passes `usize::MAX`, and
-    // else for memory alone, which is asked for only where an octet is added.
+    // If all fit, the error is `TooLong` exactly if the new length exceeds `usize::MAX`, and
+    // otherwise `Memory`; it allocates only if an octet is added.
     ensures too_long { (list : List Bool) → AreSpelledBy (plain_fields fields.now) list
         → 2 ^ 64 ≤ length buffer.old + length list → result ≡ Err WriteError.TooLong }
     ensures accepted { (list : List Bool) → AreSpelledBy (plain_fields fields.now) list
@@ -39,8 +39,8 @@ pub fn write_fields(buffer: &mut BitBuffer, fields: &[Field<'_, '_>]) -> Result<
         → length buffer.old + length list < 2 ^ 64 → AddsNoOctet (length buffer.old) (length list)
         → IsOk result }
 
-    // A refusal names the first field that doesn't fit, with its reason; where all fit, the new
-    // length or memory. The refusal is unique: if a cause other than memory applies, exactly that
+    // An error names the first field that doesn't fit, with its reason; where all fit, the new
+    // length or memory. The error is unique: if a cause other than memory applies, exactly that
     // one is named, independent of allocation.
     ensures refused { IfErr result (IsWriteRefusal (length buffer.old) (plain_fields fields.now)) }
     ensures named { (e : WriteError) → e ≢ WriteError.Memory
@@ -131,8 +131,8 @@ fn push_or_back(
     }
 }
 
-/// Picks the refusal to report: the first field that does not fit, else the new length, else want
-/// of memory.
+/// Picks the error to report: the first field that does not fit, otherwise the new length,
+/// otherwise `Memory`.
 #[cold]
 #[inline(never)]
 fn refusal_of(len: usize, fields: &[Field<'_, '_>]) -> WriteError
@@ -146,8 +146,8 @@ fn refusal_of(len: usize, fields: &[Field<'_, '_>]) -> WriteError
     }
 }
 
-/// The length behind the fields, without checking that characters have codes. `None` if a field of
-/// another kind does not fit, or the length passes `usize::MAX`.
+/// The length after the fields, without checking that characters have codes. `None` if a field of
+/// another kind does not fit, or the length exceeds `usize::MAX`.
 #[inline(always)]
 fn end_of(len: usize, fields: &[Field<'_, '_>]) -> Option<usize>
     ensures { MatchOption result
@@ -162,7 +162,7 @@ fn end_of(len: usize, fields: &[Field<'_, '_>]) -> Option<usize>
     Some(end)
 }
 
-/// The end of so many bits behind another end. `None` if it passes `usize::MAX`.
+/// The end of so many bits after another end. `None` if it exceeds `usize::MAX`.
 #[inline(always)]
 pub(super) fn end_behind(end: usize, additional: u128) -> Option<usize>
     ensures { MatchOption result (2 ^ 64 ≤ end + additional) (λ n. n ≡ end + additional) }
@@ -177,8 +177,8 @@ pub(super) fn end_behind(end: usize, additional: u128) -> Option<usize>
     Some(sum)
 }
 
-/// The number of a field's bits: the alphabet's width for a character; for another kind the bits
-/// that spell it, if it fits.
+/// Returns the number of a field's bits: the alphabet's width for a character; for another kind the
+/// bits that encode it, if it fits.
 #[inline(always)]
 fn len_of(field: &Field<'_, '_>) -> Option<u128>
     ensures { MatchOption result (Fits (plain_field field.now) → ⊥)
@@ -190,7 +190,7 @@ fn len_of(field: &Field<'_, '_>) -> Option<u128>
     }
 }
 
-/// The length behind the fields, if all fit. The sum saturates at `u128::MAX`, and later fields are
+/// The length after the fields, if all fit. The sum saturates at `u128::MAX`, and later fields are
 /// still examined.
 #[inline(always)]
 pub(super) fn new_len(len: usize, fields: &[Field<'_, '_>]) -> Result<u128, WriteError>
@@ -262,7 +262,7 @@ fn push_all(
     Some(())
 }
 
-/// Pushes or gathers a field whose bits fit the room behind those that are gathered; a character
+/// Pushes or gathers a field whose bits fit the room after those that are gathered; a character
 /// only if its alphabet has it.
 #[inline(always)]
 fn push(

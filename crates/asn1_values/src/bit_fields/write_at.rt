@@ -13,15 +13,15 @@ use super::write::{end_behind, fitting_len, new_len};
 use super::{bits, character, counted_integer, identifier, integer, number, octets};
 
 /// Writes the fields' bits over those of the octets from bit `position` on, one after another, and
-/// leaves every other bit. Returns the bit behind them. It allocates nothing. The whole list is
-/// examined first; if it is refused, the octets stay.
+/// leaves every other bit. Returns the bit after them. It allocates nothing. The whole list is
+/// examined first; after an error the octets are unchanged.
 pub fn write_fields_at(
     octets: &mut [u8],
     position: usize,
     fields: &[Field<'_, '_>],
 ) -> Result<usize, WriteError>
-    // A concatenation of the fields' spellings stands at the position, and the answer is the bit
-    // behind it.
+    // A concatenation of the fields' encodings is at the position, and the result is the bit after
+    // it.
     ensures written { IfOk result
         (λ next. (list : List Bool) × AreSpelledBy (plain_fields fields.now) list
         × (bits octets.new ≡ overwritten (bits octets.old) position list)
@@ -40,8 +40,8 @@ pub fn write_fields_at(
         → position + length list ≤ 8 * length octets.old → position + length list < 2 ^ 64
         → IsOk result }
 
-    // A refusal names the first field that doesn't fit, with its reason; where all fit, where they
-    // end. The refusal is unique.
+    // An error names the first field that doesn't fit, with its reason; where all fit, where they
+    // end. The error is unique.
     ensures refused { IfErr result
         (IsWriteAtRefusal (8 * length octets.old) position (plain_fields fields.now)) }
     ensures named { (e : WriteError)
@@ -56,7 +56,7 @@ pub fn write_fields_at(
     Ok(overwrite_all(octets, position, fields))
 }
 
-/// The place behind the fields, if all fit.
+/// The place after the fields, if all fit.
 #[inline(always)]
 fn end_at(position: usize, fields: &[Field<'_, '_>]) -> Result<u128, WriteError>
     ensures { MeasuresAll position (plain_fields fields.now) result }
@@ -67,7 +67,7 @@ fn end_at(position: usize, fields: &[Field<'_, '_>]) -> Result<u128, WriteError>
     }
 }
 
-/// The place behind the fields, if all fit and `usize` counts it. It names no misfit.
+/// The place after the fields, if all fit and `usize` counts it. It names no misfit.
 #[inline(always)]
 fn fitting_end(position: usize, fields: &[Field<'_, '_>]) -> Option<usize>
     ensures { IfSome result (EndsAt IsSpelledBy position (plain_fields fields.now)) }
@@ -82,7 +82,7 @@ fn fitting_end(position: usize, fields: &[Field<'_, '_>]) -> Option<usize>
     Some(end)
 }
 
-/// The path of `end_at` for fields that do not fit, or that end far behind.
+/// The path of `end_at` for fields that do not fit, or that end far after.
 #[cold]
 #[inline(never)]
 fn far_end(position: usize, fields: &[Field<'_, '_>]) -> Result<u128, WriteError>
@@ -91,7 +91,7 @@ fn far_end(position: usize, fields: &[Field<'_, '_>]) -> Result<u128, WriteError
     new_len(position, fields)
 }
 
-/// Writes fields that end within the target, and answers with the bit behind them.
+/// Writes fields that end within the target, and returns the bit after them.
 fn overwrite_all(target: &mut [u8], position: usize, fields: &[Field<'_, '_>]) -> usize
     requires { EndWithin (8 * length target.old) position (plain_fields fields.now) }
     ensures { OverwritesAll (plain_fields fields.now) position (bits target.old) (bits target.new)
@@ -104,7 +104,7 @@ fn overwrite_all(target: &mut [u8], position: usize, fields: &[Field<'_, '_>]) -
     next
 }
 
-/// Writes a field that ends within the target, and answers with the bit behind it.
+/// Writes a field that ends within the target, and returns the bit after it.
 fn overwrite(target: &mut [u8], position: usize, field: &Field<'_, '_>) -> usize
     requires { FitsWithin (8 * length target.old) position (plain_field field.now) }
     ensures { Overwrites (plain_field field.now) position (bits target.old) (bits target.new)

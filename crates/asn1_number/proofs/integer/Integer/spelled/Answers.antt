@@ -9,7 +9,7 @@ use Rattle.asn1_number.proofs.SpellingLemmas.{two_words, end_of_word, residue_12
 use Rattle.asn1_number.proofs.WordLemmas.{two_halves}
 use Rattle.asn1_number.proofs.integer.Integer.spelled.Goals as goal
 
--- the octets that are kept are those of the number's bits, and spell it
+-- the octets that are kept are those of the number's bits, and encode it
 kept : (c : goal.After-to_be_bytes-2)
     → c.to_be_bytes.result ++ (c.to_be_bytes-2.result ++ []) ≡ to_be_bytes w128 (c.args.high * 2 ^ 64 + c.args.low)
 kept c =

@@ -10,7 +10,7 @@ use Rattle.asn1_values.specs.Walk.{cut_at, field_at}
 use Rattle.asn1_values.proofs.CharacterKind.{character_from_code, character_refused, cut_twice}
 use Rattle.asn1_values.proofs.bit_fields.character.examine.Goals as goal
 
--- a code's character, and the bits behind it
+-- a code's character, and the bits after it
 character_read : (a : Alphabet) (list rest : List Bool) (c k : ℕ) → a.width ≤ length list
     → k ≡ number (take a.width list) → IsCode a c k → rest ≡ drop a.width list
     → field_at (OfCharacter a) list ≡ Ok (Character a c, rest)

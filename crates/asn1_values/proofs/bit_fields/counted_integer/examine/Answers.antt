@@ -7,7 +7,7 @@ use Rattle.asn1_values.proofs.CountedIntegerKind.{examined_counted, part_behind}
 use Rattle.asn1_values.proofs.bit_fields.counted_integer.examine.Goals as goal
 use Rattle.asn1_values.proofs.bit_fields.counted_integer.examine.Goals.{After-examine}
 
--- the octets behind the first were taken
+-- the octets after the first were taken
 taken : (c : After-examine) → IfOk c.examine.result (TakesCounted c.args.reader.now c.examine.new.reader)
 taken c =
     let old = view_left c.args.reader.now in

@@ -2,7 +2,7 @@ use Rattle.asn1_values.specs.Fields.{Integer, CountedInteger, Identifier}
 use Rattle.asn1_values.proofs.GatherLemmas.{room_behind, field_behind}
 use Rattle.asn1_values.proofs.bit_fields.write.push.Goals as goal
 
--- ---- room behind what was gathered
+-- ---- room after what was gathered
 
 pub push-requires-in-Integer-2 : goal.push-requires-in-Integer-2
 push-requires-in-Integer-2 c =
@@ -28,7 +28,7 @@ push-requires-in-Oid-2 c =
     c.args.turns.now.count now.turns.count c.push-in-Oid.ensures
     (rw c.in-Oid.is at c.requires)
 
--- ---- the field behind it
+-- ---- the field after it
 
 pub returns-in-Integer : goal.returns-in-Integer
 returns-in-Integer c =

@@ -4,14 +4,14 @@ use Rattle.asn1_values.specs.SpellingLaws.{all_one}
 use Rattle.asn1_values.proofs.OneRefusal.{only_too_long}
 use Rattle.asn1_values.proofs.bit_fields.write.write_fields_counted.Goals as goal
 
--- what is written is the same list, whichever spells the fields
+-- what is written is the same list, whichever encodes the fields
 pub returns-in-Some-clause-one : goal.returns-in-Some-clause-one
 returns-in-Some-clause-one c = λ codes list s.
     let w = c.in-Some.ensures.written in
     w.2 ∙ ap (λ (l : List Bool). c.args.buffer.now ++ l)
     (all_one (plain_fields c.args.fields.now) w.0 list codes w.1 s)
 
--- nothing could be refused
+-- nothing could fail
 pub returns-in-Some-clause-named : goal.returns-in-Some-clause-named
 returns-in-Some-clause-named c = λ e ne is.
     let w = c.in-Some.ensures.written in
