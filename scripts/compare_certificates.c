@@ -1,9 +1,9 @@
-/* Times the reading of certificates by OpenSSL, by `decode` of asn1_der and, with WITH_RUST, by the Rust crate `asn1`, in
- * one process.
+/* Times the reading of certificates by OpenSSL, by `decode` of asn1_x690_decode and, with WITH_RUST, by the Rust crate
+ * `asn1`, in one process.
  *
- * usage: compare_certificates FILE ROUNDS
+ * usage: compare_certificates MODULE FILE ROUNDS
  *
- * FILE holds certificates in DER, each behind its length in four octets, the highest first. The readers read all of them
+ * MODULE has the types. FILE holds certificates in DER, each after its length in four octets, the highest first. The readers read all of them
  * in turn, as many times as ROUNDS says, and the fastest time of each is printed: nanoseconds a certificate. With ROUNDS 0
  * OpenSSL alone reads each once, with -1 decode alone and with -2 the Rust crate alone, so that a counter of instructions
  * sees one of them. */
@@ -13,13 +13,13 @@
 #include <stdlib.h>
 #include <time.h>
 
-size_t read_certificate(const unsigned char *octets, size_t octet_count, size_t rounds);
+size_t read_certificates(const unsigned char *module, size_t module_count, const unsigned char *octets, size_t octet_count);
 #ifdef WITH_RUST
 bool read_by_asn1(const unsigned char *octets, size_t octet_count);
 #endif
 
-static unsigned char octets[1 << 22];
-static size_t at[4096], count;
+static unsigned char module[1 << 16], octets[1 << 22];
+static size_t at[4096], count, module_size, size;
 
 static size_t by_openssl(void) {
     size_t read = 0;
@@ -33,10 +33,7 @@ static size_t by_openssl(void) {
 }
 
 static size_t by_decode(void) {
-    size_t read = 0;
-    for (size_t i = 0; i < count; i++)
-        read += read_certificate(octets + at[i], at[i + 1] - 4 - at[i], 1);
-    return read;
+    return read_certificates(module, module_size, octets, size);
 }
 
 #ifdef WITH_RUST
@@ -62,16 +59,17 @@ static double best(size_t (*reader)(void), long rounds) {
 }
 
 int main(int argc, char **argv) {
-    FILE *file = argc == 3 ? fopen(argv[1], "rb") : NULL;
+    FILE *text = argc == 4 ? fopen(argv[1], "rb") : NULL, *file = text ? fopen(argv[2], "rb") : NULL;
     if (!file) return 1;
-    size_t size = fread(octets, 1, sizeof octets, file);
+    module_size = fread(module, 1, sizeof module, text);
+    size = fread(octets, 1, sizeof octets, file);
     for (size_t from = 0; from + 4 <= size && count < 4095;) {
         size_t length = (size_t)octets[from] << 24 | octets[from + 1] << 16 | octets[from + 2] << 8 | octets[from + 3];
         at[count++] = from + 4;
         from += 4 + length;
         at[count] = from + 4;
     }
-    long rounds = atol(argv[2]);
+    long rounds = atol(argv[3]);
 #ifdef WITH_RUST
     if (rounds == -2) return by_rust() != count;
 #endif

@@ -1,4 +1,4 @@
-"""Where functions stand in the text of a source file, as `rt fmt` lays it out."""
+"""Where functions are in the text of a source file, as `rt fmt` lays it out."""
 
 import re
 
@@ -12,11 +12,11 @@ NO_BODY = "{ loop {} }"
 
 
 class Unfit(Exception):
-    """Why an edit cannot be tried."""
+    """Why a mutation test cannot be tried."""
 
 
 def place_of(text, file, old):
-    """Where the text stands: module, type, trait and name of the function around it. None outside every function."""
+    """Where the text is: module, type, trait and name of the function around it. None outside every function."""
     at = text.find(old)
     heads = list(re.finditer(HEAD, text[: at + len(old)], re.M))
     if not heads:
@@ -31,18 +31,24 @@ def place_at(text, file, head):
     """The place of the function or the constant with this head."""
     blocks = re.findall(BLOCK, text[: head.start()], re.M) if head[1] else []
     trait, _, of = (blocks[-1][0] or blocks[-1][1] if blocks else "").rpartition(" for ")
+    return module_of(file), of, trait, head[2] or head[3]
+
+
+def module_of(file):
+    """The module of a file, as the names of its functions begin."""
     module = re.sub(r"^src/|\.rt$", "", file).replace("/", "::")
-    return "" if module in ("lib", "main") else f"{module}::", of, trait, head[2] or head[3]
+    return "" if module in ("lib", "main") else f"{module}::"
 
 
 def without_parameters(path):
-    """The last name of a type's or a trait's path."""
-    return capitals(re.sub(r"<.*", "", path.strip(), flags=re.S).split("::")[-1])
+    """The last name of a type's or a trait's path, as a check writes it within a name. A type parameter is one letter."""
+    last = re.sub(r"<.*", "", path.strip(), flags=re.S).split("::")[-1]
+    return "Any" if re.fullmatch("[A-Z]", last) else capitals(last)
 
 
 def capitals(path):
     """A type or a trait as a check writes it within a name: `From<u8>` is FromU8, `&[u8]` is RefSliceU8."""
-    words = path.replace("&", " ref ").replace("[", " slice ")
+    words = re.sub(r"'\w+", "", path).replace("&", " ref ").replace("[", " slice ")
     return "".join(it[0].upper() + it[1:] for it in re.findall(r"\w+", words))
 
 
@@ -62,7 +68,23 @@ def function_at(place, known):
     for names in likely:
         if len(names & known) == 1:
             return [*names & known][0]
-    raise Unfit("its function is not plain from its place: name it in a line `function:`")
+    raise Unfit(f"no name that a check prints is plainly that of {name} in {module}")
+
+
+def is_at(place, function, known):
+    """Whether the function of this place is the one that a check names so."""
+    try:
+        return function in names_of(place) or function == function_at(place, known)
+    except Unfit:
+        return False
+
+
+def told_at(place, known):
+    """The function of this place, by the name that a check prints if that is plain, for a message."""
+    try:
+        return function_at(place, known) if place else "no function"
+    except Unfit:
+        return place[3]
 
 
 def in_cycles(text, file, known):

@@ -1,5 +1,5 @@
-"""What the scripts know of this repository: its crates, how one of them is checked over its built libraries, and what was
-built of it."""
+"""What the scripts know of this repository: its crates, their mutation tests, how a crate is checked over its built
+libraries, and what was built of it."""
 
 import json
 import os
@@ -8,7 +8,25 @@ import shutil
 import subprocess
 import sys
 
-TOP = os.path.dirname(os.path.dirname(os.path.realpath(__file__)))
+from . import mutations
+
+# The folder of the repository, which has this file as scripts/lib/repository.py.
+TOP = os.path.abspath(f"{os.path.realpath(__file__)}/../../..")
+# The commands that the gate needs beside the kit, and the Debian packages that have them.
+PACKAGES = {
+    "cc": "gcc",
+    "gcc": "gcc",
+    "g++": "g++",
+    "clang": "clang",
+    "clang++": "clang",
+    "nm": "binutils",
+    "valgrind": "valgrind",
+    "pkg-config": "pkgconf",
+    "cmake": "cmake",
+    "cargo": "cargo",
+    "cargo-clippy": "rust-clippy",
+    "openssl": "openssl",
+}
 # What a check reads of a crate.
 PARTS = ("src", "specs", "proofs")
 # A row of a crate's folder `runs`: what the program is given, its status, and what it prints.
@@ -16,10 +34,12 @@ TEXT = r'("(?:[^"\\]|\\.)*")'
 RUN = re.compile(rf"{TEXT} = (\d+) {TEXT}")
 
 
-def need(command, package):
-    """Ends the script where the command is missing, and names the Debian package that has it."""
-    if not shutil.which(command):
-        sys.exit(f"{command} is missing: apt-get install {package}")
+def need(*commands):
+    """Ends the script where one of these commands is missing, and names the Debian package that has it."""
+    missing = [it for it in commands if not shutil.which(it)]
+    if missing:
+        print("".join(f"{it} is missing: apt-get install {PACKAGES[it]}\n" for it in missing) + f"0 passed, {len(missing)} failed")
+        sys.exit(1)
 
 
 def kit():
@@ -37,11 +57,14 @@ class Crate:
         self.rlib = f"{libraries}/{name}/{name}.rlib" if libraries else f"{self.folder}/out/rlib/{name}.rlib"
         self.is_program = os.path.isfile(f"{self.folder}/src/main.rt")
 
-    def edits(self, folder):
-        """The files of the edits in one of the crate's folders."""
-        at = f"{self.folder}/{folder}"
-        names = os.listdir(at) if os.path.isdir(at) else []
-        return sorted(f"{at}/{it}" for it in names if it.endswith((".edit", ".harmless")))
+    def size_of_mutations(self):
+        """The octets of the crate's mutation tests, 0 where it has none."""
+        path = f"{self.folder}/mutations.txt"
+        return os.path.getsize(path) if os.path.isfile(path) else 0
+
+    def mutations(self):
+        """The crate's mutation tests."""
+        return mutations.read(text_of(f"{self.folder}/mutations.txt")) if self.size_of_mutations() else []
 
     def has_tests(self):
         """Whether the crate names tests."""
@@ -55,7 +78,7 @@ def text_of(path):
 
 
 def crates(libraries=None):
-    """The crates of crates.txt by name, lowest first. Their built libraries stand in this folder, without it in `out/`."""
+    """The crates of crates.txt by name, lowest first. Their built libraries are in this folder, without it in `out/`."""
     found = {}
     for line in text_of(f"{TOP}/crates.txt").splitlines():
         head, colon, uses = line.partition("#")[0].partition(":")
@@ -98,9 +121,13 @@ def runs(crate):
 
 
 def built(crate):
-    """The program of a crate as each compiler built it."""
+    """The program of a crate as each compiler built it. Where none did, the script ends."""
     made = [f"{crate.folder}/out/{crate.name}{end}" for end in ("", ".by-rattle")]
-    return [it for it in made if os.access(it, os.X_OK)]
+    made = [it for it in made if os.access(it, os.X_OK)]
+    if not made:
+        print(f"the program {crate.name} is not built: run `rt run` in crates/{crate.name}\n0 passed, 1 failed")
+        sys.exit(1)
+    return made
 
 
 def preloaded(name, folder):
