@@ -92,10 +92,10 @@ none_from set c below ge = none_is (has_character set c) (λ has. let most = not
 -- words tell what their set has, below 256 and above
 pub has_by_words : (set : List ℕ) (words : CharacterWords) (c : ℕ) → HasWords set words
     → (ltb c 256 && in_words words.words c) ≡ has_character set c
-has_by_words set words c worded = elim (cases_lt c 256) [
-  | inl lt ↦ (let below : ltb c 256 ≡ true = grind (arith, nat_tests) in rw below (worded.same c lt))
+has_by_words set words c has_words = elim (cases_lt c 256) [
+  | inl lt ↦ (let below : ltb c 256 ≡ true = grind (arith, nat_tests) in rw below (has_words.same c lt))
   | inr ge ↦ (let above : ltb c 256 ≡ false =
-      grind (arith, nat_tests) in rw above (sym (none_from set c worded.below ge)))
+      grind (arith, nat_tests) in rw above (sym (none_from set c has_words.below ge)))
 ]
 
 -- a place was found exactly where the set has the character
@@ -117,4 +117,4 @@ none_if false value o same told = rw (sym same) refl
 
 -- words that are there, and have the set's characters
 pub some_words : (set : List ℕ) (words : CharacterWords) → HasWords set words → ForSome (Some words) (HasWords set)
-some_words set words worded x e = let is : words ≡ x = cc in rw is at worded
+some_words set words has_words x e = let is : words ≡ x = cc in rw is at has_words

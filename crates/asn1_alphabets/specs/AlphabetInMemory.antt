@@ -46,11 +46,11 @@ pub record IsKnown (name : CharacterSetName) (kept : Bool) (set : Bor (List ℕ)
   pub few : length (set_of name (some_if kept set)) ≤ 2 ^ 32
   pub room : length (set_of name (some_if kept set)) ≤ 2 ^ width
   pub by_place : indexed ≡ is_indexed width (set_of name (some_if kept set))
-  pub listing : run ≡ true → set.now ≡ set_of name (some_if kept set)
+  pub layout : run ≡ true → set.now ≡ set_of name (some_if kept set)
   pub ascends : ascending ≡ true → IsNonDecreasing (set_of name (some_if kept set))
   pub not_ascending : ascending ≡ false → kept ≡ true → ¬ (IsNonDecreasing (set_of name (some_if kept set)))
   pub gapless : run ≡ true → IsRun (set_of name (some_if kept set))
   pub seen : IsSeenRun name (option_copied (some_if kept set)) run
   pub few_places : kept ≡ false → indexed ≡ true → length (set_of name (some_if kept set)) ≤ 64
-  pub worded : ForSome words (HasWords (set_of name (some_if kept set)))
+  pub has_words : ForSome words (HasWords (set_of name (some_if kept set)))
   pub wordless : IsNone words → run ≡ false → 256 ≤ largest (set_of name (some_if kept set))

@@ -7,10 +7,10 @@ ghost use Rattle.asn1_characters.specs.Widths.{ceil_log2};
 ghost use Rattle.asn1_alphabets.specs.Alphabet.{is_indexed, alphabet_on, effective, IsCode, missing_error, uncoded_error, Encodes, Decodes, IsLongAscending};
 ghost use Rattle.asn1_alphabets.specs.AlphabetInMemory.{some_if, IsKnown};
 
-use crate::effective_set::{EffectiveSet, parts_of_words};
+use crate::effective_set::{EffectiveSet, split_words};
 use crate::permitted_set::{largest_of, repeats_in};
 use crate::run::Run;
-use crate::search::{Entries, Looks, find_ascending, find_one_by_one};
+use crate::search::{CountedSlice, Entries, find_ascending, find_one_by_one};
 use asn1_bits::Turns;
 use asn1_characters::widths::{codes_of, width_for};
 use asn1_characters::{
@@ -42,11 +42,11 @@ pub struct CharacterAlphabet<'s> {
     // Whether the effective set is contiguous: each character is one more than the one before it.
     run: bool,
     // Whether the words are those of the effective set. Then its characters are below 256.
-    worded: bool,
+    has_words: bool,
     // The effective set, where it is a permitted set or contiguous. Else it is empty.
     set: &'s [u32],
     words: CharacterWords,
-    ghost known: { IsKnown name kept set width indexed ascending run (some_if worded words) },
+    ghost known: { IsKnown name kept set width indexed ascending run (some_if has_words words) },
 }
 
 impl<'s> CharacterAlphabet<'s> {
@@ -81,21 +81,21 @@ impl<'s> CharacterAlphabet<'s> {
             alphabet_of result ≡ alphabet_on (name_of set.entry) kept aligned }
     {
         let width = width_for(aligned, set.count());
-        let listing = set.listing();
-        let run = listing.run;
+        let layout = set.layout();
+        let run = layout.run;
         let largest = set.largest(run);
         let indexed = codes_of(width) <= largest as u64;
         let ascending = set.is_ascending(run);
-        let (worded, words) = parts_of_words(set.words(run, largest));
+        let (has_words, words) = split_words(set.words(run, largest));
         CharacterAlphabet {
             name: set.name(),
             width: width as u8,
             indexed,
-            kept: listing.kept,
+            kept: layout.kept,
             ascending,
             run,
-            worded,
-            set: listing.set,
+            has_words,
+            set: layout.set,
             words,
         }
     }
@@ -292,7 +292,7 @@ impl<'s> CharacterAlphabet<'s> {
         if self.run {
             return Run::of(self.set).place(character, probes).is_some();
         }
-        if self.worded {
+        if self.has_words {
             return self.words.contains(character);
         }
         self.contains_by_looks(character, probes)
@@ -389,6 +389,6 @@ fn place_by_looks(set: &[u32], ascending: bool, character: u32, probes: &mut Tur
     ensures looked { IsLongAscending set.now →
         OnSome result (probes.old.count + 1 ≤ probes.new.count) }
 {
-    let place = place_among(&mut Looks::at(set), ascending, character, probes)?;
+    let place = place_among(&mut CountedSlice::at(set), ascending, character, probes)?;
     Some(place as u32)
 }

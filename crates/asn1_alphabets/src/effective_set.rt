@@ -87,7 +87,7 @@ impl<'s> EffectiveSet<'s> {
     /// Its words, where its characters are below 256. A contiguous permitted set needs none.
     pub(crate) fn words(self, run: bool, most: u32) -> Option<CharacterWords>
         requires { most ≡ largest (characters_of self) }
-        ensures worded { ForSome result (HasWords (characters_of self.entry)) }
+        ensures has_words { ForSome result (HasWords (characters_of self.entry)) }
         ensures wordless { IsNone result → run ≡ false → 256 ≤ most }
     {
         match self {
@@ -103,26 +103,26 @@ impl<'s> EffectiveSet<'s> {
     }
 
     /// How it lies in memory.
-    pub(crate) fn listing(self) -> Listing<'s>
+    pub(crate) fn layout(self) -> Layout<'s>
         ensures kept { some_if result.kept result.set ≡ permitted_of self.entry }
-        ensures listing { result.run ≡ true → result.set.now ≡ characters_of self.entry }
+        ensures layout { result.run ≡ true → result.set.now ≡ characters_of self.entry }
         ensures gapless { result.run ≡ true → IsRun (characters_of self.entry) }
         ensures seen { let permitted = option_copied (permitted_of self.entry) in
             IsSeenRun (name_of self.entry) permitted result.run }
     {
         match self {
-            EffectiveSet::Permitted { set, .. } => Listing {
+            EffectiveSet::Permitted { set, .. } => Layout {
                 kept: true,
                 run: is_run(set),
                 set,
             },
             EffectiveSet::Base(name) => match name.table() {
-                Some(set) => Listing {
+                Some(set) => Layout {
                     kept: false,
                     run: true,
                     set,
                 },
-                None => Listing {
+                None => Layout {
                     kept: false,
                     run: false,
                     set: &[],
@@ -135,14 +135,14 @@ impl<'s> EffectiveSet<'s> {
 // How the effective set lies in memory: whether it is a permitted set, and whether it is known to
 // be contiguous. In both cases `set` lists it.
 #[derive(Clone, Copy)]
-pub(crate) struct Listing<'s> {
+pub(crate) struct Layout<'s> {
     pub(crate) kept: bool,
     pub(crate) run: bool,
     pub(crate) set: &'s [u32],
 }
 
 /// Splits the option: whether there are words, and these, otherwise the words of no character.
-pub(crate) fn parts_of_words(words: Option<CharacterWords>) -> (bool, CharacterWords)
+pub(crate) fn split_words(words: Option<CharacterWords>) -> (bool, CharacterWords)
     ensures { some_if result.0 result.1 ≡ words }
 {
     match words {

@@ -14,4 +14,4 @@ mod run;
 mod search;
 
 pub use alphabet::{CharacterAlphabet, should_be_indexed};
-pub use search::{Entries, Looks, find_ascending};
+pub use search::{CountedSlice, Entries, find_ascending};

@@ -31,33 +31,33 @@ pub trait Entries {
 
 /// A list in memory and how often it was looked at, a number that takes no bytes.
 #[derive(Drop)]
-pub struct Looks<'a> {
+pub struct CountedSlice<'a> {
     /// The list.
     pub entries: &'a [u32],
     /// The looks at it.
     pub taken: Turns,
 }
 
-impl<'a> Looks<'a> {
+impl<'a> CountedSlice<'a> {
     /// The list, with no look at it yet.
-    pub fn at(entries: &'a [u32]) -> Looks<'a>
+    pub fn at(entries: &'a [u32]) -> CountedSlice<'a>
         ensures list { result.entries.now ≡ entries.now }
         ensures none { result.taken.count ≡ 0 }
     {
-        Looks {
+        CountedSlice {
             entries,
             taken: Turns::new(),
         }
     }
 }
 
-impl fmt::Debug for Looks<'_> {
+impl fmt::Debug for CountedSlice<'_> {
     fn fmt<W: fmt::Write>(&self, f: &mut fmt::Formatter<W>) -> fmt::Result {
         fmt::Debug::fmt(&self.entries, f)
     }
 }
 
-impl<'a> Entries for Looks<'a> {
+impl<'a> Entries for CountedSlice<'a> {
     ghost list = { λ s. s.entries.now };
 
     ghost looks = { λ s. s.taken.count };

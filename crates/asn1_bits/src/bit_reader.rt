@@ -102,7 +102,7 @@ impl<'a> BitReader<'a> {
         if count > len {
             return Err(count - len);
         }
-        let (front, rest) = self.view.split_either(count);
+        let (front, rest) = self.view.split_at_short(count);
         self.view = rest;
         Ok(BitReader { view: front })
     }

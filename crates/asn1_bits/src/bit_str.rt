@@ -10,7 +10,7 @@ mod words;
 
 use crate::kernels::write_bitslice;
 use crate::single_bits::{bit_from, from_octet};
-use crate::target::{Rest, Target};
+use crate::target::{BegunWord, Target};
 use crate::turns::Turns;
 use crate::window::{or_shifted_words, or_words};
 use std::alloc::AllocError;
@@ -148,7 +148,7 @@ impl<'a> BitStr<'a> {
 
     /// ORs the last `width` bits of a view of whole words into the front of an octet of the target.
     /// They complete a word whose first bits are stored.
-    pub(crate) fn or_edge(&self, width: usize, dst: &mut Target<'_>, rest: Rest, octet: usize)
+    pub(crate) fn or_edge(&self, width: usize, dst: &mut Target<'_>, rest: BegunWord, octet: usize)
         requires some { 64 ≤ (view_of self.now).len }
         requires whole { (view_of self.now).len % 64 ≡ 0 }
         requires left { width ≤ rest.left }

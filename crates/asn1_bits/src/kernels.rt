@@ -1,6 +1,6 @@
 //! The kernels: bits of octets read and written at any place.
 //!
-//! `or_far`, `or_long`, `copy_octets`, and in other modules `or_aligned` and `or_many_words`, are not
+//! `or_above_64`, `or_unaligned`, `copy_octets`, and in other modules `or_aligned` and `or_many_words`, are not
 //! inlined, so that their callers inline only the path for short views. They take the target by value
 //! and return it: through a reference, each word would load the place of the octets again. The view is
 //! lent, so that a call in tail position is a jump.
@@ -63,22 +63,22 @@ fn or_view(dst: &mut Target<'_>, position: usize, src: BitStr<'_>, turns: &mut T
     ensures turns { turns.new.count ≡ turns.old.count + div_ceil (view_of src.entry).len 64 }
 {
     if src.len() > 0 && src.len() <= 64 {
-        if let Some(word) = src.near_word() {
+        if let Some(word) = src.word_unless_near_end() {
             dst.or_word(position, word, src.len(), turns);
         } else {
-            *dst = or_last(dst.take(), position, src, turns);
+            *dst = or_near_end(dst.take(), position, src, turns);
         }
     } else {
         // A copy is lent, so that the view itself stays in registers.
         let lent = src;
-        *dst = or_far(dst.take(), position, &lent, turns);
+        *dst = or_above_64(dst.take(), position, &lent, turns);
     }
 }
 
 /// The path of `or_view` for at most a word near the end of its storage. Cold and not inlined.
 #[cold]
 #[inline(never)]
-fn or_last<'a>(
+fn or_near_end<'a>(
     target: Target<'a>,
     position: usize,
     src: BitStr<'_>,
@@ -101,7 +101,7 @@ fn or_last<'a>(
 
 /// The path of `or_view` for no bits, and for more than a word.
 #[inline(never)]
-fn or_far<'a>(
+fn or_above_64<'a>(
     target: Target<'a>,
     position: usize,
     src: &BitStr<'_>,
@@ -126,12 +126,12 @@ fn or_far<'a>(
             return or_aligned(target, position / 8, octets, turns);
         }
     }
-    or_long(target, position, src, turns)
+    or_unaligned(target, position, src, turns)
 }
 
-/// The path of `or_far` for bits that are not copied octet by octet. It needs more registers.
+/// The path of `or_above_64` for bits that are not copied octet by octet. It needs more registers.
 #[inline(never)]
-fn or_long<'a>(
+fn or_unaligned<'a>(
     target: Target<'a>,
     position: usize,
     src: &BitStr<'_>,
@@ -153,7 +153,7 @@ fn or_long<'a>(
     own
 }
 
-/// The work of `or_long`: whole words of 64 bits, and then the bits that are left.
+/// The work of `or_unaligned`: whole words of 64 bits, and then the bits that are left.
 #[inline(always)]
 fn or_each_word(dst: &mut Target<'_>, position: usize, src: BitStr<'_>, turns: &mut Turns)
     requires long { 64 < (view_of src).len }

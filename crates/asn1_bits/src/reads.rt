@@ -15,16 +15,16 @@ pub(crate) fn read_word(octets: &[u8], first: usize, shift: usize, width: usize)
     ensures { result ≡ number (take width (drop (8 * first + shift) (bits octets.now))) }
 {
     if width <= 57 {
-        read_few(octets, first, shift, width)
+        read_57(octets, first, shift, width)
     } else {
-        read_many(octets, first, shift, width)
+        read_64(octets, first, shift, width)
     }
 }
 
 /// The path of `read_word` for so few bits that they lie within eight octets, which are loaded
 /// where all of them are there.
 #[inline(always)]
-pub(crate) fn read_few(octets: &[u8], first: usize, shift: usize, width: usize) -> u64
+pub(crate) fn read_57(octets: &[u8], first: usize, shift: usize, width: usize) -> u64
     requires shift { shift < 8 }
     requires width { width ≤ 57 }
     requires within { 8 * first + shift + width ≤ 8 * length octets.now }
@@ -33,13 +33,13 @@ pub(crate) fn read_few(octets: &[u8], first: usize, shift: usize, width: usize) 
     if width > 0 && first + 8 <= octets.len() {
         return (load(octets, first) << shift) >> ((64 - width) % 64);
     }
-    read_last(octets, first, shift, width)
+    read_57_near_end(octets, first, shift, width)
 }
 
 /// The path of `read_word` for so many bits that eight octets are there, and that may reach a
 /// ninth.
 #[inline(always)]
-pub(crate) fn read_many(octets: &[u8], first: usize, shift: usize, width: usize) -> u64
+pub(crate) fn read_64(octets: &[u8], first: usize, shift: usize, width: usize) -> u64
     requires shift { shift < 8 }
     requires some { 57 < width }
     requires width { width ≤ 64 }
@@ -53,10 +53,10 @@ pub(crate) fn read_many(octets: &[u8], first: usize, shift: usize, width: usize)
 }
 
 /// The number of more than 64 bits, at most 128, from bit `shift` of octet `first` on: read from
-/// seventeen octets at once or, near the end of the octets, from two words. Where `NEAR_END` says
+/// seventeen octets at once or, near the end of the octets, from two words. Where `INLINE_NEAR_END` says
 /// that the second is likely, it is inlined.
 #[inline(always)]
-pub(crate) fn read_long<const NEAR_END: bool>(
+pub(crate) fn read_128<const INLINE_NEAR_END: bool>(
     octets: &[u8],
     first: usize,
     shift: usize,
@@ -71,13 +71,13 @@ pub(crate) fn read_long<const NEAR_END: bool>(
     if first + 17 <= octets.len() {
         return read_seventeen(octets, first, shift, width);
     }
-    if NEAR_END {
-        return read_two(octets, first, shift, width);
+    if INLINE_NEAR_END {
+        return read_two_words(octets, first, shift, width);
     }
-    read_long_last(octets, first, shift, width)
+    read_128_near_end(octets, first, shift, width)
 }
 
-/// The path of `read_long` for seventeen octets, which are loaded at once.
+/// The path of `read_128` for seventeen octets, which are loaded at once.
 #[inline(always)]
 fn read_seventeen(octets: &[u8], first: usize, shift: usize, width: usize) -> u128
     requires shift { shift < 8 }
@@ -90,9 +90,9 @@ fn read_seventeen(octets: &[u8], first: usize, shift: usize, width: usize) -> u1
     wide_of_seventeen(octets, first, shift) >> ((128 - width) % 64)
 }
 
-/// The path of `read_long` near the end of the octets: two words.
+/// The path of `read_128` near the end of the octets: two words.
 #[inline(always)]
-fn read_two(octets: &[u8], first: usize, shift: usize, width: usize) -> u128
+fn read_two_words(octets: &[u8], first: usize, shift: usize, width: usize) -> u128
     requires shift { shift < 8 }
     requires many { 64 < width }
     requires width { width ≤ 128 }
@@ -105,23 +105,23 @@ fn read_two(octets: &[u8], first: usize, shift: usize, width: usize) -> u128
     (u128::from(high >> (128 - width)) << 64) | u128::from(rest)
 }
 
-/// `read_two`, cold and not inlined.
+/// `read_two_words`, cold and not inlined.
 #[cold]
 #[inline(never)]
-fn read_long_last(octets: &[u8], first: usize, shift: usize, width: usize) -> u128
+fn read_128_near_end(octets: &[u8], first: usize, shift: usize, width: usize) -> u128
     requires shift { shift < 8 }
     requires many { 64 < width }
     requires width { width ≤ 128 }
     requires within { 8 * first + shift + width ≤ 8 * length octets.now }
     ensures { result ≡ number (take width (drop (8 * first + shift) (bits octets.now))) }
 {
-    read_two(octets, first, shift, width)
+    read_two_words(octets, first, shift, width)
 }
 
-/// The path of `read_few` for the last octets of a slice, and for no bits. Cold and not inlined.
+/// The path of `read_57` for the last octets of a slice, and for no bits. Cold and not inlined.
 #[cold]
 #[inline(never)]
-fn read_last(octets: &[u8], first: usize, shift: usize, width: usize) -> u64
+fn read_57_near_end(octets: &[u8], first: usize, shift: usize, width: usize) -> u64
     requires shift { shift < 8 }
     requires width { shift + width ≤ 64 }
     requires within { 8 * first + shift + width ≤ 8 * length octets.now }

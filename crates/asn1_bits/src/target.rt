@@ -8,8 +8,8 @@ ghost use Rattle.asn1_bits.specs.Bits.{bits, digits, ored, overwritten, IsZeroFr
 
 use crate::turns::Turns;
 use stores::{
-    or_eight, or_front, or_octets, or_short, or_upper, or_word, put_pair, put_word, set_octets,
-    set_word,
+    or_eight, or_front, or_octets, or_short, or_upper, or_word, put_pair, put_word, set_word,
+    store_octets,
 };
 
 mod stores;
@@ -28,7 +28,7 @@ pub(crate) struct Target<'a> {
 /// A begun word, of which at most `left` bits are still to be stored. Its turn is taken, and the
 /// value is used once.
 #[derive(Drop)]
-pub(crate) struct Rest {
+pub(crate) struct BegunWord {
     left: usize,
 }
 
@@ -110,7 +110,7 @@ impl<'a> Target<'a> {
     /// ORs the first digits of a word in, as many as reach the end of the eight octets from that of
     /// `position` on, and counts one turn. `or_rest` stores the others later.
     #[inline(always)]
-    pub(crate) fn or_begun(&mut self, position: usize, word: u64, turns: &mut Turns) -> Rest
+    pub(crate) fn or_begun(&mut self, position: usize, word: u64, turns: &mut Turns) -> BegunWord
         requires { position / 8 + 8 ≤ length self.old.octets.now }
         ensures bits { bits self.new.octets.now
             ≡ ored (bits self.old.octets.now) position
@@ -124,13 +124,13 @@ impl<'a> Target<'a> {
         or_upper(self.octets, position, word);
         self.placed.tick();
         turns.tick();
-        Rest { left: position % 8 }
+        BegunWord { left: position % 8 }
     }
 
     /// ORs the rest of a begun word in, from the first bit of an octet on. `or_begun` has counted
     /// its turn.
     #[inline(always)]
-    pub(crate) fn or_rest(&mut self, _rest: Rest, octet: usize, word: u64, width: usize)
+    pub(crate) fn or_rest(&mut self, _rest: BegunWord, octet: usize, word: u64, width: usize)
         requires left { width ≤ _rest.left }
         requires width { width ≤ 8 }
         requires within { 8 * octet + width ≤ 8 * length self.old.octets.now }
@@ -232,7 +232,7 @@ impl<'a> Target<'a> {
         ensures placed { self.new.placed.count ≡ self.old.placed.count + 1 }
         ensures turn { turns.new.count ≡ turns.old.count + 1 }
     {
-        set_octets(self.octets, first, octets);
+        store_octets(self.octets, first, octets);
         self.placed.tick();
         turns.tick();
     }

@@ -313,7 +313,7 @@ fn or_many_words<'a>(
         first,
         src,
         shift,
-        left_of_word(shift),
+        opaque_complement(shift),
         count,
         turns,
     );
@@ -355,7 +355,7 @@ fn or_joined_words(
 // Not inlined, to hide the difference from LLVM. It would make one shift of 128 bits (`shld`) of the
 // two shifts of a word, and such shifts do not vectorize.
 #[inline(never)]
-fn left_of_word(shift: usize) -> usize
+fn opaque_complement(shift: usize) -> usize
     requires { shift < 64 }
     ensures { result ≡ 64 - shift }
 {

@@ -70,7 +70,7 @@ pub(crate) fn pair_at(octets: &[u8], i: usize) -> u32
     256 * u32::from(octets[2 * i]) + u32::from(octets[2 * i + 1])
 }
 
-/// Looks for the first wrong character of a string's octets: one octet a character, two in
+/// CountedSlice for the first wrong character of a string's octets: one octet a character, two in
 /// BMPString. Its place is counted in characters.
 #[unsafe(no_mangle)]
 pub extern "C" fn asn1v_string_check(

@@ -1,9 +1,8 @@
-//! Octet strings, the base sets of the eight restricted character strings of ASN.1, and the errors
-//! for characters that are not in them.
+//! The base sets of the eight restricted character strings of ASN.1, and the errors for characters
+//! that are not in them.
 //!
-//! An octet string is a list of octets (X.680 23), shared or in place. A base set is the list of
-//! characters that one of the eight strings may hold (X.680 41), by its ranges; one look at four
-//! words tells whether a character below 256 is among them. [`widths`] tells how many bits the
+//! A base set is the list of characters that one of the eight strings may hold (X.680 41), by its
+//! ranges; one look at four words tells whether a character below 256 is among them. [`widths`] tells how many bits the
 //! characters of a set take. Each string has an error of its own, with its text.
 #![tactic(auto)]
 
@@ -12,9 +11,7 @@ mod character_table;
 mod character_words;
 mod error;
 mod error_conversions;
-mod fixed_octet_string;
 mod has_character_set;
-mod octet_string;
 pub mod widths;
 
 pub use character_set::{CharacterRanges, CharacterSetName};
@@ -24,6 +21,4 @@ pub use error::{
     InvalidNumericString, InvalidPrintableString, InvalidRestrictedString, InvalidTeletexString,
     InvalidVisibleString, PermittedAlphabetError,
 };
-pub use fixed_octet_string::FixedOctetString;
 pub use has_character_set::HasCharacterSet;
-pub use octet_string::OctetString;

@@ -9,7 +9,7 @@ mod integer;
 mod integer_type;
 mod laws;
 mod native;
-mod octets_left;
+mod read_integer;
 mod readings;
 mod signed;
 mod unsigned;
@@ -21,4 +21,4 @@ pub use asn1_number::{
 };
 pub use integer_type::IntegerType;
 pub use laws::laws_of_wrapping;
-pub use octets_left::integer_of;
+pub use read_integer::read_signed;

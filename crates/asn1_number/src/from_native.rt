@@ -73,7 +73,7 @@ impl From<i64> for Integer {
     ghost from_gives = { λ n number. number ≡ n };
 
     fn from(n: i64) -> Integer {
-        Integer::of_word(n)
+        Integer::from_i64_inline(n)
     }
 }
 

@@ -14,10 +14,10 @@ ghost use Rattle.asn1_number.specs.Shortest.{shortest_octets};
 use crate::error::IntegerError;
 use crate::integer_bytes::IntegerBytes;
 use crate::order::{compare_octets, octets_keys, rank_of, sixteen_keys};
-use crate::sign_octets::shortest_part;
+use crate::sign_octets::without_redundant_sign_octets_fast;
 use crate::values::{
-    halves_among, halves_of, signed_value, spare_of_eight, start_among, start_of, unsigned_value,
-    widened,
+    leading_octets_among, leading_octets_of, sign_extended, signed_value, spare_of_eight,
+    unsigned_value, words_of_i128, words_of_octets,
 };
 use std::alloc::{AllocError, Global};
 use std::cmp::Ordering;
@@ -70,15 +70,15 @@ impl Integer {
     pub(crate) fn inline(number: i128) -> Integer
         ensures { result ≡ number }
     {
-        let (high, low) = halves_of(number);
-        Integer::spelled(start_of(number), high, low)
+        let (high, low) = words_of_i128(number);
+        Integer::spelled(leading_octets_of(number), high, low)
     }
 
     /// A number within `i64`: it takes the work of one word.
-    pub(crate) fn of_word(number: i64) -> Integer
+    pub(crate) fn from_i64_inline(number: i64) -> Integer
         ensures { result ≡ number }
     {
-        let (high, low) = widened(number);
+        let (high, low) = sign_extended(number);
         Integer::spelled(8 + spare_of_eight(number), high, low)
     }
 
@@ -98,13 +98,13 @@ impl Integer {
 
     /// The two's complement value of one to sixteen octets.
     #[inline(always)]
-    fn of_few_octets(octets: &[u8]) -> Integer
+    fn from_short_octets(octets: &[u8]) -> Integer
         requires some { 0 < length octets.now }
         requires few { length octets.now ≤ 16 }
         ensures { result ≡ signed octets.now }
     {
-        let (high, low) = halves_among(octets);
-        Integer::spelled(start_among(octets), high, low)
+        let (high, low) = words_of_octets(octets);
+        Integer::spelled(leading_octets_among(octets), high, low)
     }
 
     /// The same number. Memory is asked for only where it lies outside `i128`.
@@ -157,21 +157,21 @@ impl Integer {
             return Err(IntegerError::UnexpectedEmptyInput);
         }
         if octets.len() <= 16 {
-            return Ok(Integer::of_few_octets(octets));
+            return Ok(Integer::from_short_octets(octets));
         }
-        Integer::from_more_octets(alloc, octets)
+        Integer::from_long_octets(alloc, octets)
     }
 
     /// The path of `from_signed_octets` for more than sixteen octets. Inlined, so that the stack
     /// slot for the call's result is initialised on this path alone.
     #[inline(always)]
-    fn from_more_octets(alloc: Global, octets: &[u8]) -> Result<Integer, IntegerError>
+    fn from_long_octets(alloc: Global, octets: &[u8]) -> Result<Integer, IntegerError>
         requires { 0 < length octets.now }
         ensures value { IfOk result (λ n. n ≡ signed octets.now) }
         ensures memory { IfErr result
             (λ e. (e ≡ IntegerError.Memory) × ¬ (FitsI128 (signed octets.now))) }
     {
-        match Integer::from_many_octets(alloc, octets) {
+        match Integer::from_long_octets_in_memory(alloc, octets) {
             Ok(number) => Ok(number),
             Err(_) => Err(IntegerError::Memory),
         }
@@ -179,15 +179,15 @@ impl Integer {
 
     /// The two's complement value of many octets, which take memory.
     #[inline(never)]
-    fn from_many_octets(alloc: Global, octets: &[u8]) -> Result<Integer, IntegerError>
+    fn from_long_octets_in_memory(alloc: Global, octets: &[u8]) -> Result<Integer, IntegerError>
         requires { 0 < length octets.now }
         ensures value { IfOk result (λ n. n ≡ signed octets.now) }
         ensures memory { IfErr result
             (λ e. (e ≡ IntegerError.Memory) × ¬ (FitsI128 (signed octets.now))) }
     {
-        let kept = shortest_part(octets);
+        let kept = without_redundant_sign_octets_fast(octets);
         if kept.len() <= 16 {
-            return Ok(Integer::of_few_octets(kept));
+            return Ok(Integer::from_short_octets(kept));
         }
         let Ok(kept) = Vec::from_slice(alloc, kept) else {
             return Err(IntegerError::Memory);

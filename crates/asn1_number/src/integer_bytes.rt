@@ -5,7 +5,7 @@ ghost use Rattle.std.specs.Cmp.Lexicographic.{pointwise, nat_list_eq_equiv};
 ghost use Rattle.std.specs.Int.{to_be_bytes, w64};
 ghost use Rattle.asn1_number.specs.Octets.{IsShortest, IsShortestUnsigned};
 
-use crate::sign_octets::zeros_for_sign;
+use crate::sign_octets::leading_sign_octets;
 use std::alloc::AllocError;
 use std::convert::AsSlice;
 use std::marker::Model;
@@ -120,7 +120,7 @@ impl<'a> IntegerBytes<'a> {
     pub fn without_sign(self) -> IntegerBytes<'a>
         ensures { (n : ℕ) → IsShortest (pos n) self.entry → IsShortestUnsigned n result }
     {
-        let skipped = zeros_for_sign(self.as_ref());
+        let skipped = leading_sign_octets(self.as_ref());
         match self.storage {
             Storage::Words {
                 start,

@@ -11,7 +11,7 @@ fn repeats_sign(first: u8, second: u8) -> bool
 
 /// Whether the first octet alone tells that the octets are the shortest of their two's complement
 /// value (X.690 8.3.2), as it mostly does.
-pub(crate) fn is_plainly_shortest(octets: &[u8]) -> bool
+pub(crate) fn is_shortest_at_once(octets: &[u8]) -> bool
     requires { 0 < length octets.now }
     ensures { IsTrue result → IsShortest (signed octets.now) octets.now }
 {
@@ -35,11 +35,11 @@ pub fn without_redundant_sign_octets(octets: &[u8]) -> &[u8]
 }
 
 /// `without_redundant_sign_octets`, where mostly the first octet tells that there are none.
-pub(crate) fn shortest_part(octets: &[u8]) -> &[u8]
+pub(crate) fn without_redundant_sign_octets_fast(octets: &[u8]) -> &[u8]
     requires { 0 < length octets.now }
     ensures { IsShortest (signed octets.now) result.now }
 {
-    if is_plainly_shortest(octets) {
+    if is_shortest_at_once(octets) {
         return octets;
     }
     without_redundant_sign_octets(octets)
@@ -47,7 +47,7 @@ pub(crate) fn shortest_part(octets: &[u8]) -> &[u8]
 
 /// Returns how many first octets of a number's shortest two's complement octets only say that it is
 /// not negative: one zero octet before others, or none.
-pub(crate) fn zeros_for_sign(octets: &[u8]) -> usize
+pub(crate) fn leading_sign_octets(octets: &[u8]) -> usize
     ensures within { result ≤ length octets.now }
     ensures shortest { (n : ℕ) → IsShortest (pos n) octets.now
         → IsShortestUnsigned n (drop result octets.now) }

@@ -5,7 +5,7 @@ ghost use Rattle.asn1_number.specs.Octets.{IsShortest, signed, unsigned};
 ghost use Rattle.asn1_number.specs.Shortest.{shortest_octets};
 
 use crate::integer_bytes::IntegerBytes;
-use crate::sign_octets::is_plainly_shortest;
+use crate::sign_octets::is_shortest_at_once;
 
 /// The number of eight octets, most significant first.
 pub(crate) fn word_of_eight(octets: &[u8]) -> u64
@@ -85,7 +85,7 @@ pub(crate) fn spare_of_eight(number: i64) -> usize
 
 /// Where the shortest octets of the number begin in its sixteen octets. A number within `i64`
 /// takes the work of one word.
-pub(crate) fn start_of(number: i128) -> usize
+pub(crate) fn leading_octets_of(number: i128) -> usize
     ensures { result + length (shortest_octets number) ≡ 16 }
 {
     match i64::try_from(number) {
@@ -97,57 +97,57 @@ pub(crate) fn start_of(number: i128) -> usize
 
 /// Returns where the shortest octets begin in the sixteen octets of the number that these octets
 /// encode. It tests first whether they are the shortest, as they mostly are.
-pub(crate) fn start_among(octets: &[u8]) -> usize
+pub(crate) fn leading_octets_among(octets: &[u8]) -> usize
     requires some { 0 < length octets.now }
     requires few { length octets.now ≤ 16 }
     ensures { result + length (shortest_octets (signed octets.now)) ≡ 16 }
 {
-    if is_plainly_shortest(octets) {
+    if is_shortest_at_once(octets) {
         return 16 - octets.len();
     }
-    later_start(octets)
+    counted_leading_octets(octets)
 }
 
-/// The path of `start_among` where the first octet does not tell.
+/// The path of `leading_octets_among` where the first octet does not tell.
 #[cold]
 #[inline(never)]
-fn later_start(octets: &[u8]) -> usize
+fn counted_leading_octets(octets: &[u8]) -> usize
     requires some { 0 < length octets.now }
     requires few { length octets.now ≤ 16 }
     ensures { result + length (shortest_octets (signed octets.now)) ≡ 16 }
 {
-    start_of(signed_value(octets))
+    leading_octets_of(signed_value(octets))
 }
 
 /// The two words of the two's complement value of one to sixteen octets.
-pub(crate) fn halves_among(octets: &[u8]) -> (u64, u64)
+pub(crate) fn words_of_octets(octets: &[u8]) -> (u64, u64)
     requires some { 0 < length octets.now }
     requires few { length octets.now ≤ 16 }
     ensures { cast_signed w128 (result.0 * 2 ^ 64 + result.1) ≡ signed octets.now }
 {
     match octets.len() {
-        1 | 2 => widened(signed_of_two(octets)),
-        8 => widened(word_of_eight(octets).cast_signed()),
+        1 | 2 => sign_extended(signed_of_two(octets)),
+        8 => sign_extended(word_of_eight(octets).cast_signed()),
         16 => {
             let (front, last) = octets.split_at(8);
             (word_of_eight(front), word_of_eight(last))
         }
-        _ => halves_by_octets(octets),
+        _ => words_by_octets(octets),
     }
 }
 
-/// The path of `halves_among` for other counts. Not inlined, since it has loops.
+/// The path of `words_of_octets` for other counts. Not inlined, since it has loops.
 #[inline(never)]
-fn halves_by_octets(octets: &[u8]) -> (u64, u64)
+fn words_by_octets(octets: &[u8]) -> (u64, u64)
     requires some { 0 < length octets.now }
     requires few { length octets.now ≤ 16 }
     ensures { cast_signed w128 (result.0 * 2 ^ 64 + result.1) ≡ signed octets.now }
 {
-    halves_of(signed_value(octets))
+    words_of_i128(signed_value(octets))
 }
 
 /// The two words of a number.
-pub(crate) fn halves_of(number: i128) -> (u64, u64)
+pub(crate) fn words_of_i128(number: i128) -> (u64, u64)
     ensures { cast_signed w128 (result.0 * 2 ^ 64 + result.1) ≡ number }
 {
     let bits = number.cast_unsigned();
@@ -155,7 +155,7 @@ pub(crate) fn halves_of(number: i128) -> (u64, u64)
 }
 
 /// The two words of a number within one.
-pub(crate) fn widened(number: i64) -> (u64, u64)
+pub(crate) fn sign_extended(number: i64) -> (u64, u64)
     ensures { cast_signed w128 (result.0 * 2 ^ 64 + result.1) ≡ number }
 {
     let high = if number < 0 { u64::MAX } else { 0 };
@@ -177,7 +177,7 @@ fn signed_of_two(octets: &[u8]) -> i64
 
 /// Two words of eight octets that end with the shortest octets of the number, and where these
 /// begin. A number within `i64` takes the work of one word.
-pub(crate) fn words_of(number: i128) -> (usize, u64, u64)
+pub(crate) fn shortest_in_words(number: i128) -> (usize, u64, u64)
     ensures count { result.0 + length (shortest_octets number) ≡ 16 }
     ensures octets { drop result.0 (to_be_bytes w64 result.1 ++ to_be_bytes w64 result.2)
         ≡ shortest_octets number }
@@ -198,6 +198,6 @@ pub(crate) fn words_of(number: i128) -> (usize, u64, u64)
 pub fn shortest_of<'a>(number: i128) -> IntegerBytes<'a>
     ensures { IsShortest number result }
 {
-    let (start, high, low) = words_of(number);
+    let (start, high, low) = shortest_in_words(number);
     IntegerBytes::end_of(start, high, low)
 }

@@ -3,7 +3,7 @@ ghost use Rattle.std.specs.Prelude.{refl};
 ghost use Rattle.asn1_characters.specs.SetLaws.{below_limit};
 ghost use Rattle.asn1_characters.specs.declared.character_set.CharacterSetName.TheVariants.{General as name};
 
-use crate::octet_kinds::{AsBytes, FromBytes};
+use crate::octet_kinds::{HasAsBytes, HasFromBytes};
 use crate::restricted_string::RestrictedString;
 use crate::string_kind::StringKind;
 use asn1_characters::CharacterSetName;
@@ -24,9 +24,9 @@ impl StringKind for General {
     ghost octets = { refl };
 }
 
-impl FromBytes for General {}
+impl HasFromBytes for General {}
 
-impl AsBytes for General {}
+impl HasAsBytes for General {}
 
 /// A `GeneralString` (X.680 41): 0 to 7F and A1 to FF.
 pub type GeneralString = RestrictedString<General>;

@@ -3,7 +3,7 @@ ghost use Rattle.std.specs.Prelude.{refl};
 ghost use Rattle.asn1_characters.specs.SetLaws.{below_limit};
 ghost use Rattle.asn1_characters.specs.declared.character_set.CharacterSetName.TheVariants.{Graphic as name};
 
-use crate::octet_kinds::{AsBytes, FromBytes};
+use crate::octet_kinds::{HasAsBytes, HasFromBytes};
 use crate::restricted_string::RestrictedString;
 use crate::string_kind::StringKind;
 use asn1_characters::CharacterSetName;
@@ -24,9 +24,9 @@ impl StringKind for Graphic {
     ghost octets = { refl };
 }
 
-impl FromBytes for Graphic {}
+impl HasFromBytes for Graphic {}
 
-impl AsBytes for Graphic {}
+impl HasAsBytes for Graphic {}
 
 /// A `GraphicString` (X.680 41): 20 to 7E and A1 to FF.
 pub type GraphicString = RestrictedString<Graphic>;

@@ -6,7 +6,7 @@ ghost use Rattle.asn1_strings.specs.Maps.{KeyMap, base_map, map_of_entries, stri
 ghost use Rattle.asn1_strings.specs.KeyWalk.{itself};
 ghost use Rattle.asn1_strings.specs.KeyNumbers.{numbers_of};
 
-use crate::key_walk::string_at_keys;
+use crate::key_walk::decode_string;
 use crate::pieces::BitPieces;
 use crate::static_permitted_alphabet::StaticPermittedAlphabet;
 use asn1_bits::BitStr;
@@ -75,9 +75,9 @@ impl CountedKeys for &BTreeMap<u32, u32> {
 }
 
 // Each number as its own key, for bits that encode the characters themselves.
-struct Itself;
+struct Identity;
 
-impl Keys for Itself {
+impl Keys for Identity {
     ghost key_map = { λ numbers. itself };
 
     fn get(&self, key: u32) -> Option<u32> {
@@ -94,7 +94,7 @@ pub(crate) fn string_of_numbers<'a, S: StaticPermittedAlphabet>(
     ensures { let numbers = numbers_of characters.entry in
         Answers S.characters result (string_of_characters S.CHARACTER_SET_NAME numbers) }
 {
-    string_at_keys::<S, Itself>(alloc, characters, &Itself)
+    decode_string::<S, Identity>(alloc, characters, &Identity)
 }
 
 /// The string of bits in a map: by keys where its largest character needs more bits than a key has.
@@ -120,7 +120,7 @@ pub(crate) fn string_of_bits_in<'a, S: StaticPermittedAlphabet, M: CountedKeys>(
         width: width as usize,
     };
     if codes_of(width) <= map.largest() as u64 {
-        string_at_keys::<S, M>(alloc, pieces, map)
+        decode_string::<S, M>(alloc, pieces, map)
     } else {
         string_of_numbers::<S>(alloc, pieces)
     }

@@ -17,7 +17,7 @@ use std::alloc::Global;
 
 /// The string of the characters at these keys.
 #[inline(always)]
-pub(crate) fn string_at_keys<'a, S: StaticPermittedAlphabet, M: Keys>(
+pub(crate) fn decode_string<'a, S: StaticPermittedAlphabet, M: Keys>(
     alloc: Global,
     keys: BitPieces<'a>,
     map: &M,
@@ -26,7 +26,7 @@ pub(crate) fn string_at_keys<'a, S: StaticPermittedAlphabet, M: Keys>(
         Answers S.characters result
         (string_of_keys S.CHARACTER_SET_NAME (M.key_map map.now).get numbers) }
 {
-    match units_at_keys::<S, M>(alloc, keys, map) {
+    match decode_units::<S, M>(alloc, keys, map) {
         Some(units) => Ok(S::from_units(units)),
         None => Err(refusal_at_keys::<S, M>(keys, map)),
     }
@@ -35,7 +35,7 @@ pub(crate) fn string_at_keys<'a, S: StaticPermittedAlphabet, M: Keys>(
 /// Returns the units of the characters at these keys, read in one walk; `None` if one is invalid,
 /// or if out of memory.
 #[inline(always)]
-fn units_at_keys<'a, S: StaticPermittedAlphabet, M: Keys>(
+fn decode_units<'a, S: StaticPermittedAlphabet, M: Keys>(
     alloc: Global,
     keys: BitPieces<'a>,
     map: &M,
@@ -54,15 +54,15 @@ fn units_at_keys<'a, S: StaticPermittedAlphabet, M: Keys>(
     };
     let mut right = true;
     for _ in 0..count / each {
-        right = push_next::<S, M>(&mut units, keys, map, each) & right;
+        right = push_word::<S, M>(&mut units, keys, map, each) & right;
     }
-    right = push_next::<S, M>(&mut units, keys, map, count % each) & right;
+    right = push_word::<S, M>(&mut units, keys, map, count % each) & right;
     if right { Some(units) } else { None }
 }
 
 /// Appends the units of the next `count` characters, and says whether all were seen to be right.
 #[inline(always)]
-fn push_next<'a, S: StaticPermittedAlphabet, M: Keys>(
+fn push_word<'a, S: StaticPermittedAlphabet, M: Keys>(
     units: &mut Vec<S::T>,
     keys: BitPieces<'a>,
     map: &M,
@@ -87,7 +87,7 @@ fn push_next<'a, S: StaticPermittedAlphabet, M: Keys>(
     let mut right = true;
     for i in 0..count {
         let key = (word >> (keys.width * (count - 1 - i))) % codes;
-        let (character, is_right) = examined::<S>(map.get(key as u32));
+        let (character, is_right) = checked_character::<S>(map.get(key as u32));
         units.push_reserved(<S::T as CodeUnit>::from_character(character));
         right = right & is_right;
     }
@@ -97,7 +97,7 @@ fn push_next<'a, S: StaticPermittedAlphabet, M: Keys>(
 /// Returns the character and true if it was found and the set has it, otherwise a space and false,
 /// so that the loop goes on without a branch.
 #[inline(always)]
-fn examined<S: StaticPermittedAlphabet>(found: Option<u32>) -> (u32, bool)
+fn checked_character<S: StaticPermittedAlphabet>(found: Option<u32>) -> (u32, bool)
     ensures held { has_character (base_set S.CHARACTER_SET_NAME) result.0 ≡ true }
     ensures right { result.1 ≡ true → found ≡ Some result.0 }
 {

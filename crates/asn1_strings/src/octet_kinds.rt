@@ -3,19 +3,20 @@ ghost use Rattle.std.specs.Prelude.{◌≡◌, ◌≢◌, ◌<◌, ℕ, true, []
 ghost use Rattle.asn1_characters.specs.Sets.{base_set, has_character};
 ghost use Rattle.asn1_strings.specs.Strings.{Answers, string_of_octets};
 
+use crate::octet_string::OctetString;
 use crate::restricted_string::RestrictedString;
 use crate::static_permitted_alphabet::StaticPermittedAlphabet;
 use crate::string_kind::StringKind;
-use asn1_characters::{OctetString, PermittedAlphabetError};
+use asn1_characters::PermittedAlphabetError;
 use std::alloc::Global;
 use std::convert::AsSlice;
 use std::fmt;
 
 /// A kind whose strings have `from_bytes`.
-pub trait FromBytes: StringKind<T = u8> {}
+pub trait HasFromBytes: StringKind<T = u8> {}
 
 /// A kind whose strings have `as_bytes`.
-pub trait AsBytes: StringKind<T = u8> {}
+pub trait HasAsBytes: StringKind<T = u8> {}
 
 /// A kind whose characters are below 128, so that its strings are texts: they have `as_str`,
 /// `into_string` and `Display`.
@@ -24,9 +25,9 @@ pub trait AsText: StringKind<T = u8> {
 }
 
 /// A kind whose strings have the calls that are named for ISO 646.
-pub trait Iso646: AsText {}
+pub trait IsIso646: AsText {}
 
-impl<K: FromBytes> RestrictedString<K> {
+impl<K: HasFromBytes> RestrictedString<K> {
     /// Returns the string of these characters, one octet each. The errors are those of
     /// `try_from_slice`.
     pub fn from_bytes(alloc: Global, bytes: &[u8]) -> Result<Self, PermittedAlphabetError>
@@ -36,7 +37,7 @@ impl<K: FromBytes> RestrictedString<K> {
     }
 }
 
-impl<K: AsBytes> RestrictedString<K> {
+impl<K: HasAsBytes> RestrictedString<K> {
     /// The characters, one octet each.
     pub fn as_bytes(&self) -> &[u8]
         ensures { result.now ≡ self.now }
@@ -69,7 +70,7 @@ impl<K: AsText> RestrictedString<K> {
     }
 }
 
-impl<K: Iso646> RestrictedString<K> {
+impl<K: IsIso646> RestrictedString<K> {
     /// Returns the string of these characters, one octet each. The errors are those of
     /// `try_from_slice`.
     pub fn from_iso646_bytes(alloc: Global, bytes: &[u8]) -> Result<Self, PermittedAlphabetError>

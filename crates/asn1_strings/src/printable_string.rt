@@ -3,7 +3,7 @@ ghost use Rattle.std.specs.Prelude.{refl};
 ghost use Rattle.asn1_characters.specs.SetLaws.{below_limit};
 ghost use Rattle.asn1_characters.specs.declared.character_set.CharacterSetName.TheVariants.{Printable as name};
 
-use crate::octet_kinds::{AsBytes, AsText, FromBytes};
+use crate::octet_kinds::{AsText, HasAsBytes, HasFromBytes};
 use crate::restricted_string::RestrictedString;
 use crate::string_kind::StringKind;
 use asn1_characters::CharacterSetName;
@@ -24,9 +24,9 @@ impl StringKind for Printable {
     ghost octets = { refl };
 }
 
-impl FromBytes for Printable {}
+impl HasFromBytes for Printable {}
 
-impl AsBytes for Printable {}
+impl HasAsBytes for Printable {}
 
 impl AsText for Printable {
     ghost is_ascii = { below_limit name 128 refl };

@@ -3,7 +3,7 @@ ghost use Rattle.std.specs.Prelude.{◌≡◌, ◌≢◌, [], IfOk, OnErr, refl}
 ghost use Rattle.asn1_characters.specs.SetLaws.{below_limit};
 ghost use Rattle.asn1_characters.specs.declared.character_set.CharacterSetName.TheVariants.{Teletex as name};
 
-use crate::octet_kinds::FromBytes;
+use crate::octet_kinds::HasFromBytes;
 use crate::restricted_string::RestrictedString;
 use crate::string_kind::StringKind;
 use asn1_characters::CharacterSetName;
@@ -25,7 +25,7 @@ impl StringKind for Teletex {
     ghost octets = { refl };
 }
 
-impl FromBytes for Teletex {}
+impl HasFromBytes for Teletex {}
 
 /// A `TeletexString` (X.680 41): 0 to FF.
 pub type TeletexString = RestrictedString<Teletex>;

@@ -3,7 +3,7 @@ ghost use Rattle.std.specs.Prelude.{refl};
 ghost use Rattle.asn1_characters.specs.SetLaws.{below_limit};
 ghost use Rattle.asn1_characters.specs.declared.character_set.CharacterSetName.TheVariants.{Visible as name};
 
-use crate::octet_kinds::{AsText, Iso646};
+use crate::octet_kinds::{AsText, IsIso646};
 use crate::restricted_string::RestrictedString;
 use crate::string_kind::StringKind;
 use asn1_characters::CharacterSetName;
@@ -28,7 +28,7 @@ impl AsText for Visible {
     ghost is_ascii = { below_limit name 128 refl };
 }
 
-impl Iso646 for Visible {}
+impl IsIso646 for Visible {}
 
 /// A `VisibleString` (X.680 41): 20 to 7E.
 pub type VisibleString = RestrictedString<Visible>;

@@ -7,7 +7,9 @@
 
 pub mod bit_fields;
 
-pub use asn1_alphabets::{CharacterAlphabet, Entries, Looks, find_ascending, should_be_indexed};
+pub use asn1_alphabets::{
+    CharacterAlphabet, CountedSlice, Entries, find_ascending, should_be_indexed,
+};
 pub use asn1_bits::{
     BitAppender, BitBuffer, BitReader, BitStr, BitString, FixedBitString, Octets, Places, Turns,
     aligned_octets, extend_bitstring, extend_vec_from_bitslice, or_bits, overwrite_bitslice,
@@ -16,7 +18,7 @@ pub use asn1_bits::{
 };
 pub use asn1_integer::{
     ConstrainedInteger, Integer, IntegerBytes, IntegerError, IntegerType, TryFromIntegerError,
-    integer_of, laws_of_shortest_octets, laws_of_wrapping, signed_value, unsigned_value,
+    laws_of_shortest_octets, laws_of_wrapping, read_signed, signed_value, unsigned_value,
     without_redundant_sign_octets,
 };
 pub use asn1_oid::{
@@ -24,11 +26,11 @@ pub use asn1_oid::{
     check_contents, laws_of_contents, parse_arcs,
 };
 pub use asn1_strings::{
-    AsBytes, AsText, Bmp, BmpString, CharacterRanges, CharacterSetName, Chars, CodeUnit,
-    FixedOctetString, FromBytes, General, GeneralString, Graphic, GraphicString, HasCharacterSet,
-    Ia5, Ia5String, InvalidBmpString, InvalidGeneralString, InvalidGraphicString, InvalidIA5String,
+    AsText, Bmp, BmpString, CharacterRanges, CharacterSetName, Chars, CodeUnit, FixedOctetString,
+    General, GeneralString, Graphic, GraphicString, HasAsBytes, HasCharacterSet, HasFromBytes, Ia5,
+    Ia5String, InvalidBmpString, InvalidGeneralString, InvalidGraphicString, InvalidIA5String,
     InvalidNumericString, InvalidPrintableString, InvalidRestrictedString, InvalidTeletexString,
-    InvalidVisibleString, Iso646, Numeric, NumericString, OctetString, PermittedAlphabetError,
+    InvalidVisibleString, IsIso646, Numeric, NumericString, OctetString, PermittedAlphabetError,
     Printable, PrintableString, RestrictedString, StaticPermittedAlphabet, StringKind, Teletex,
     TeletexString, Utf8String, Visible, VisibleString,
 };

@@ -8,7 +8,7 @@ ghost use Rattle.field_lines.specs.Output.{line, error_text};
 ghost use Rattle.field_lines.specs.Answer.{IsAnswer, IsBitsAnswer, IsOnly, IsPrinted, IsStart, answer_in};
 
 use crate::parse::{Lines, number, octets, shapes};
-use crate::print::{print_fields, print_refusal};
+use crate::print::{print_fault, print_fields};
 use asn1_values::{
     BitBuffer, BitReader, BitStr, Field, ReadError, Shape, read_fields, write_fields,
 };
@@ -25,7 +25,7 @@ pub struct Answer {
 
 /// Answers three lines: the shapes of fields, octets in hexadecimal, and the bit at which the first
 /// field begins. The first invalid line decides. The only error is out of memory.
-pub fn answer_to(alloc: Global, text: &[u8]) -> Result<Answer, AllocError>
+pub fn answer(alloc: Global, text: &[u8]) -> Result<Answer, AllocError>
     // It is an answer to the text, which has no other.
     ensures answer { IfOk result (λ answer. IsOnly (IsAnswer text.now) (answer_in answer)) }
     ensures status { IfOk result (λ answer. answer.status ≤ 1) }
@@ -42,7 +42,7 @@ pub fn answer_to(alloc: Global, text: &[u8]) -> Result<Answer, AllocError>
     let Some(view) = view_from(octets.as_slice(), lines.start)? else {
         return refusal(alloc, "bad start");
     };
-    fields_of(alloc, view, shapes.as_slice())
+    read_and_print(alloc, view, shapes.as_slice())
 }
 
 /// Returns the one line that says why an input is invalid.
@@ -79,21 +79,25 @@ fn view_from<'a>(octets: &'a [u8], line: &[u8]) -> Result<Option<BitStr<'a>>, Al
 
 /// The fields of the shapes, what is left, and the fields written again; or the line that names the
 /// first wrong field.
-fn fields_of(alloc: Global, view: BitStr<'_>, shapes: &[Shape<'_>]) -> Result<Answer, AllocError>
+fn read_and_print(
+    alloc: Global,
+    view: BitStr<'_>,
+    shapes: &[Shape<'_>],
+) -> Result<Answer, AllocError>
     requires { GiveOneSpelling (plain_shapes shapes.now) }
     ensures { IfOk result (λ answer.
         IsOnly (IsBitsAnswer (bits_of view.entry) (plain_shapes shapes.now)) (answer_in answer)) }
 {
     let mut reader = BitReader::new(view);
     match read_fields(alloc, &mut reader, shapes) {
-        Ok(fields) => answer_of_fields(alloc, fields.as_slice(), reader.len()),
+        Ok(fields) => printed_fields(alloc, fields.as_slice(), reader.len()),
         Err(ReadError::Memory) => Err(AllocError),
-        Err(error) => answer_of_refusal(alloc, error),
+        Err(error) => printed_fault(alloc, error),
     }
 }
 
 /// The answer of fields that were found.
-fn answer_of_fields(
+fn printed_fields(
     alloc: Global,
     fields: &[Field<'_, '_>],
     left: usize,
@@ -114,12 +118,12 @@ fn answer_of_fields(
 }
 
 /// The answer of an input that does not begin with fields of the shapes.
-fn answer_of_refusal(alloc: Global, error: ReadError) -> Result<Answer, AllocError>
+fn printed_fault(alloc: Global, error: ReadError) -> Result<Answer, AllocError>
     ensures { IfOk result (λ answer. answer_in answer
         ≡ record { text = line (codes "refused: " ++ error_text error); status = 1 }) }
 {
     Ok(Answer {
-        text: print_refusal(alloc, error)?,
+        text: print_fault(alloc, error)?,
         status: 1,
     })
 }

@@ -121,7 +121,7 @@ fn print_octets(
 }
 
 /// The line for an input that does not begin with fields of the shapes.
-pub fn print_refusal(alloc: Global, error: ReadError) -> Result<String, AllocError>
+pub fn print_fault(alloc: Global, error: ReadError) -> Result<String, AllocError>
     ensures { IfOk result
         (λ text. string_bytes text ≡ line (codes "refused: " ++ error_text error)) }
 {

@@ -25,7 +25,7 @@ impl<'a> BitStr<'a> {
     /// Splits as `split_at` does. For a constant `at` below 256 the branch is decided at compile
     /// time, and one addition takes the place of three.
     #[inline(always)]
-    pub(crate) fn split_either(&self, at: usize) -> (BitStr<'a>, BitStr<'a>)
+    pub(crate) fn split_at_short(&self, at: usize) -> (BitStr<'a>, BitStr<'a>)
         requires { at ≤ (view_of self.now).len }
         ensures front { view_of result.0 ≡ part (view_of self.now) 0 at }
         ensures back { view_of result.1 ≡ part (view_of self.now) at ((view_of self.now).len - at) }
@@ -33,7 +33,7 @@ impl<'a> BitStr<'a> {
         ensures back_list { bits_of result.1 ≡ drop at (bits_of self.now) }
     {
         if at < 256 {
-            self.split_near(at)
+            self.split_below_256(at)
         } else {
             self.split_at(at)
         }
@@ -41,7 +41,7 @@ impl<'a> BitStr<'a> {
 
     /// `split_at` for fewer than 256 bits: with so few no sum of places exceeds `usize`.
     #[inline(always)]
-    fn split_near(&self, at: usize) -> (BitStr<'a>, BitStr<'a>)
+    fn split_below_256(&self, at: usize) -> (BitStr<'a>, BitStr<'a>)
         requires near { at < 256 }
         requires within { at ≤ (view_of self.now).len }
         ensures front { view_of result.0 ≡ part (view_of self.now) 0 at }

@@ -5,14 +5,14 @@ ghost use Rattle.asn1_bits.specs.Bits.{digits, number};
 ghost use Rattle.asn1_bits.specs.BitStr.{view_of, bits_of};
 
 use super::BitStr;
-use crate::reads::{read_few, read_long, read_many, read_word};
+use crate::reads::{read_57, read_64, read_128, read_word};
 use crate::window::whole_word;
 
 impl BitStr<'_> {
-    /// The number of the first `width` bits, the first of them its highest digit. `NEAR_END` inlines
+    /// The number of the first `width` bits, the first of them its highest digit. `INLINE_NEAR_END` inlines
     /// the path for more than 64 bits near the end of the storage.
     #[inline(always)]
-    pub(crate) fn first_u128<const NEAR_END: bool>(&self, width: usize) -> u128
+    pub(crate) fn first_u128<const INLINE_NEAR_END: bool>(&self, width: usize) -> u128
         requires width { width ≤ 128 }
         requires len { width ≤ (view_of self.now).len }
         ensures number { result ≡ number (take width (bits_of self.now)) }
@@ -20,12 +20,12 @@ impl BitStr<'_> {
         ensures below { result < 2 ^ width }
     {
         if width <= 57 {
-            return u128::from(read_few(self.storage, self.octet, self.shift, width));
+            return u128::from(read_57(self.storage, self.octet, self.shift, width));
         }
         if width <= 64 {
-            return u128::from(read_many(self.storage, self.octet, self.shift, width));
+            return u128::from(read_64(self.storage, self.octet, self.shift, width));
         }
-        read_long::<NEAR_END>(self.storage, self.octet, self.shift, width)
+        read_128::<INLINE_NEAR_END>(self.storage, self.octet, self.shift, width)
     }
 
     /// `width` bits from bit `at` on, as the lowest digits of a word.
@@ -52,18 +52,18 @@ impl BitStr<'_> {
     /// The view's bits, of which there are 1 to 64, as the lowest digits of a word. None near the
     /// end of the storage.
     #[inline(always)]
-    pub(crate) fn near_word(&self) -> Option<u64>
+    pub(crate) fn word_unless_near_end(&self) -> Option<u64>
         requires some { 0 < (view_of self.now).len }
         requires len { (view_of self.now).len ≤ 64 }
         ensures { IfSome result (λ n. digits n (view_of self.now).len ≡ bits_of self.now) }
     {
         if self.len > 57 {
-            return Some(read_many(self.storage, self.octet, self.shift, self.len));
+            return Some(read_64(self.storage, self.octet, self.shift, self.len));
         }
         if self.octet + 8 > self.storage.len() {
             return None;
         }
-        Some(read_few(self.storage, self.octet, self.shift, self.len))
+        Some(read_57(self.storage, self.octet, self.shift, self.len))
     }
 
     /// The number of the first 64 bits.
@@ -72,7 +72,7 @@ impl BitStr<'_> {
         requires { 64 ≤ (view_of self.now).len }
         ensures { result ≡ number (take 64 (bits_of self.now)) }
     {
-        read_many(self.storage, self.octet, self.shift, 64)
+        read_64(self.storage, self.octet, self.shift, 64)
     }
 
     /// The last 64 bits of a view of whole words, as the digits of a word.
@@ -85,7 +85,7 @@ impl BitStr<'_> {
     {
         // Whole words later the shift is the same.
         let octet = self.octet + (self.len / 8 - 8);
-        read_many(self.storage, octet, self.shift, 64)
+        read_64(self.storage, octet, self.shift, 64)
     }
 
     /// The 64 bits from bit `at` on, as the digits of a word.

@@ -17,7 +17,7 @@ fn load_native(octets: &[u8], first: usize) -> u64
 }
 
 /// Writes eight octets over those from one of them on.
-pub(super) fn set_octets(dst: &mut [u8], first: usize, octets: [u8; 8])
+pub(super) fn store_octets(dst: &mut [u8], first: usize, octets: [u8; 8])
     requires { first + 8 ≤ length dst.old }
     ensures { dst.new ≡ take first dst.old ++ (octets ++ drop (first + 8) dst.old) }
 {
@@ -36,7 +36,7 @@ pub(super) fn or_eight(dst: &mut [u8], first: usize, src: &[u8], at: usize)
     ensures { bits dst.new ≡ ored (bits dst.old) (8 * first) (bits (take 8 (drop at src.now))) }
 {
     let word = load_native(dst, first) | load_native(src, at);
-    set_octets(dst, first, word.to_ne_bytes());
+    store_octets(dst, first, word.to_ne_bytes());
 }
 
 /// ORs the digits of the word into the eight octets from one of them on.
@@ -61,7 +61,7 @@ pub(super) fn or_word(dst: &mut [u8], position: usize, word: u64, width: usize)
     // The remainder changes nothing; it tells the compiler that the shift is below 64.
     let top = word << ((64 - width) % 64);
     if position / 8 + 8 > dst.len() {
-        or_last(dst, position, top, width);
+        or_near_end(dst, position, top, width);
         return;
     }
     or_front_of(dst, position, word, width);
@@ -77,7 +77,7 @@ pub(super) fn or_word(dst: &mut [u8], position: usize, word: u64, width: usize)
 /// Not inlined.
 #[cold]
 #[inline(never)]
-fn or_last(dst: &mut [u8], position: usize, top: u64, width: usize)
+fn or_near_end(dst: &mut [u8], position: usize, top: u64, width: usize)
     requires some { 0 < width }
     requires width { position % 8 + width ≤ 64 }
     requires within { position + width ≤ 8 * length dst.old }
@@ -142,7 +142,7 @@ pub(super) fn add_octets(dst: &mut [u8], position: usize, word: u64)
     let first = position / 8;
     let begun = u64::from(dst[first]);
     let turned = u64::from_le_bytes(word.to_be_bytes());
-    set_octets(dst, first, (begun + turned).to_le_bytes());
+    store_octets(dst, first, (begun + turned).to_le_bytes());
 }
 
 /// Writes a number of `width` digits over zeros from bit `position` on. They lie within eight
@@ -173,7 +173,7 @@ pub(super) fn put_pair(dst: &mut [u8], position: usize, number: u128, width: usi
     let pair = number << (128 - width - position % 8);
     let low = (pair & 0xFFFF_FFFF_FFFF_FFFF) as u64;
     add_octets(dst, position, (pair >> 64) as u64);
-    set_octets(dst, position / 8 + 8, low.to_be_bytes());
+    store_octets(dst, position / 8 + 8, low.to_be_bytes());
 }
 
 /// ORs the lowest `width` digits of the word in from the first bit of an octet on, of which there
@@ -225,7 +225,7 @@ fn set_within_eight(dst: &mut [u8], position: usize, word: u64, width: usize)
 {
     let first = position / 8;
     let new = replaced(load(dst, first), word, position % 8, width);
-    set_octets(dst, first, new.to_be_bytes());
+    store_octets(dst, first, new.to_be_bytes());
 }
 
 /// Slow path of `set_near` for the last octets of a slice: it clears the bits first. Not inlined.

@@ -18,7 +18,7 @@ use asn1_bits::{BitAppender, BitReader, BitStr, Turns, overwrite_bitslice, read_
 
 /// How many bits they are.
 #[inline(always)]
-pub(super) fn fitting_len(bits: &BitStr<'_>) -> u128
+pub(super) fn len_or_misfit(bits: &BitStr<'_>) -> u128
     ensures { FitsIn (plain.Bits (bits_of bits.now)) result }
 {
     bits.len() as u128
@@ -97,7 +97,7 @@ pub(super) fn overwrite_view(target: &mut [u8], position: usize, view: BitStr<'_
 
 /// Goes past `length` bits, and gives them.
 #[tactic(auto, unfolding(crate::specs::Walk::field_at, crate::specs::Walk::cut_at))]
-pub(super) fn examine<'a>(
+pub(super) fn take_value<'a>(
     reader: &mut BitReader<'a>,
     length: usize,
     field: usize,
@@ -109,7 +109,7 @@ pub(super) fn examine<'a>(
 }
 
 /// Appends a view of the next bits to the fields, for which there is room.
-pub(super) fn append<'a>(
+pub(super) fn read_into<'a>(
     fields: &mut Vec<Field<'a, '_>>,
     reader: &mut BitReader<'a>,
     length: usize,
@@ -119,7 +119,7 @@ pub(super) fn append<'a>(
     ensures { AppendsNext (plain.OfBits length) field reader.old reader.new fields.old fields.new
         result }
 {
-    let front = examine(reader, length, field)?;
+    let front = take_value(reader, length, field)?;
     fields.push_reserved(Field::Bits(front.bits()));
     Ok(())
 }

@@ -19,7 +19,7 @@ use asn1_bits::{BitAppender, BitReader, Turns};
 
 /// The width of the alphabet, if it has a code for the character.
 #[inline(always)]
-pub(super) fn fitting_len(
+pub(super) fn len_or_misfit(
     alphabet: &CharacterAlphabet<'_>,
     character: u32,
     field: usize,
@@ -77,7 +77,7 @@ pub(super) fn overwrite(
 /// Goes past a character, if the alphabet has one for the code, and gives it.
 #[inline(always)]
 #[tactic(auto, unfolding(crate::specs::Walk::field_at, crate::specs::Walk::cut_at))]
-pub(super) fn examine(
+pub(super) fn take_value(
     reader: &mut BitReader<'_>,
     alphabet: &CharacterAlphabet<'_>,
     field: usize,
@@ -96,7 +96,7 @@ pub(super) fn examine(
 }
 
 /// Appends the next character to the fields, for which there is room.
-pub(super) fn append<'a, 's>(
+pub(super) fn read_into<'a, 's>(
     fields: &mut Vec<Field<'a, 's>>,
     reader: &mut BitReader<'a>,
     alphabet: &CharacterAlphabet<'s>,
@@ -106,7 +106,7 @@ pub(super) fn append<'a, 's>(
     ensures { AppendsNext (plain.OfCharacter (alphabet_of alphabet.now)) field reader.old reader.new
         fields.old fields.new result }
 {
-    let character = examine(reader, alphabet, field)?;
+    let character = take_value(reader, alphabet, field)?;
     fields.push_reserved(Field::Character {
         character,
         alphabet: *alphabet,

@@ -15,17 +15,17 @@ use super::integer::{self, overwrite_shortest, push_shortest};
 use super::number::overwrite_digits;
 use super::take::take_few;
 use asn1_bits::{BitAppender, BitReader, Turns};
-use asn1_integer::{Integer, integer_of};
+use asn1_integer::{Integer, read_signed};
 use std::alloc::Global;
 
 /// How many bits the shortest octets and the octet in front of them have, if they are at most 127.
 #[inline(always)]
-pub(super) fn fitting_len(number: &Integer, place: usize) -> Result<u128, WriteError>
-    ensures { Measures place (plain.CountedInteger number.now) result }
+pub(super) fn len_or_misfit(number: &Integer, field: usize) -> Result<u128, WriteError>
+    ensures { Measures field (plain.CountedInteger number.now) result }
 {
     let octets = number.signed_len();
     if octets > 127 {
-        return Err(WriteError::IntegerLength { field: place });
+        return Err(WriteError::IntegerLength { field });
     }
     Ok(8 + 8 * octets as u128)
 }
@@ -54,7 +54,7 @@ pub(super) fn overwrite(target: &mut [u8], position: usize, number: &Integer) ->
 /// Goes past a counted integer, and gives the octets after its first, if that is 1 to 127, and so
 /// many octets are the shortest of a number.
 #[inline(always)]
-pub(super) fn examine<'a>(
+pub(super) fn take_value<'a>(
     reader: &mut BitReader<'a>,
     field: usize,
 ) -> Result<BitReader<'a>, ReadError>
@@ -62,7 +62,7 @@ pub(super) fn examine<'a>(
         (field_at plain.OfCountedInteger (bits_left reader.old)) reader.new result }
 {
     let octets = take_count(reader, field)?;
-    integer::examine(reader, usize::from(octets), field)
+    integer::take_value(reader, usize::from(octets), field)
 }
 
 /// Takes the octet that counts, if it is 1 to 127.
@@ -79,7 +79,7 @@ fn take_count(reader: &mut BitReader<'_>, field: usize) -> Result<u8, ReadError>
 }
 
 /// Appends the next counted integer to the fields, for which there is room.
-pub(super) fn append<'a>(
+pub(super) fn read_into<'a>(
     fields: &mut Vec<Field<'a, '_>>,
     alloc: Global,
     reader: &mut BitReader<'a>,
@@ -89,8 +89,8 @@ pub(super) fn append<'a>(
     ensures { AppendsNext plain.OfCountedInteger field reader.old reader.new fields.old fields.new
         result }
 {
-    let front = examine(reader, field)?;
-    let number = integer_of(alloc, &front)?;
+    let front = take_value(reader, field)?;
+    let number = read_signed(alloc, &front)?;
     fields.push_reserved(Field::CountedInteger(number));
     Ok(())
 }

@@ -20,17 +20,17 @@ use std::alloc::{AllocError, Global};
 
 /// How many bits the contents have, if the identifier has two arcs.
 #[inline(always)]
-pub(super) fn fitting_len(oid: &ObjectIdentifier, place: usize) -> Result<u128, WriteError>
-    ensures { Measures place (plain.Identifier oid.now) result }
+pub(super) fn len_or_misfit(oid: &ObjectIdentifier, field: usize) -> Result<u128, WriteError>
+    ensures { Measures field (plain.Identifier oid.now) result }
 {
-    fitting_contents(oid, place)
+    fitting_contents(oid, field)
 }
 
-/// The work of `fitting_len`. Not inlined, so that the result's stack slot is initialised only for
+/// The work of `len_or_misfit`. Not inlined, so that the result's stack slot is initialised only for
 /// identifiers.
 #[inline(never)]
-fn fitting_contents(oid: &ObjectIdentifier, place: usize) -> Result<u128, WriteError>
-    ensures { Measures place (plain.Identifier oid.now) result }
+fn fitting_contents(oid: &ObjectIdentifier, field: usize) -> Result<u128, WriteError>
+    ensures { Measures field (plain.Identifier oid.now) result }
 {
     let arcs = oid.as_ref();
     // For the proof: `len()` ensures that the number of arcs is below 2^64, so that of their octets
@@ -38,7 +38,7 @@ fn fitting_contents(oid: &ObjectIdentifier, place: usize) -> Result<u128, WriteE
     let _len = arcs.len();
     match oid.as_oid().contents_len() {
         Some(octets) => Ok(8 * octets),
-        None => Err(WriteError::ArcCount { field: place }),
+        None => Err(WriteError::ArcCount { field }),
     }
 }
 
@@ -101,7 +101,7 @@ fn overwrite_each(target: &mut [u8], position: usize, octets: OidContents<'_>) -
 
 /// Goes past an identifier, and gives its contents, if the octets are contents.
 #[tactic(auto, unfolding(crate::specs::Walk::field_at, crate::specs::Walk::cut_at))]
-pub(super) fn examine<'a>(
+pub(super) fn take_value<'a>(
     reader: &mut BitReader<'a>,
     octet_count: usize,
     field: usize,
@@ -123,7 +123,7 @@ pub(super) fn examine<'a>(
 
 /// Appends the next identifier to the fields, for which there is room.
 #[tactic(auto, unfolding(crate::specs::Walk::field_at, crate::specs::Walk::cut_at))]
-pub(super) fn append<'a>(
+pub(super) fn read_into<'a>(
     fields: &mut Vec<Field<'a, '_>>,
     alloc: Global,
     reader: &mut BitReader<'a>,
@@ -134,7 +134,7 @@ pub(super) fn append<'a>(
     ensures { AppendsNext (plain.OfIdentifier octets) field reader.old reader.new fields.old
         fields.new result }
 {
-    let front = examine(reader, octets, field)?;
+    let front = take_value(reader, octets, field)?;
     let oid = identifier_of(alloc, &front)?;
     fields.push_reserved(Field::Oid(oid));
     Ok(())

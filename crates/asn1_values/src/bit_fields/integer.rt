@@ -15,12 +15,12 @@ use super::number::overwrite_digits;
 use super::octets::overwrite_octets;
 use super::take::take_bits;
 use asn1_bits::{BitAppender, BitReader, Turns};
-use asn1_integer::{Integer, integer_of};
+use asn1_integer::{Integer, read_signed};
 use std::alloc::{AllocError, Global};
 
 /// How many bits the shortest octets have.
 #[inline(always)]
-pub(super) fn fitting_len(number: &Integer) -> u128
+pub(super) fn len_or_misfit(number: &Integer) -> u128
     ensures { FitsIn (plain.Integer number.now) result }
 {
     8 * number.signed_len() as u128
@@ -96,7 +96,7 @@ pub(super) fn overwrite_shortest(target: &mut [u8], position: usize, number: &In
 /// Goes past an integer, and gives its octets, if they are the shortest of a number: if the first
 /// nine of their bits are not all alike (X.690 8.3.2), or there is one octet.
 #[tactic(auto, unfolding(crate::specs::Walk::integer_at, crate::specs::Walk::cut_at))]
-pub(super) fn examine<'a>(
+pub(super) fn take_value<'a>(
     reader: &mut BitReader<'a>,
     octets: usize,
     field: usize,
@@ -119,7 +119,7 @@ pub(super) fn examine<'a>(
 
 /// Appends the next integer to the fields, for which there is room.
 #[tactic(auto, unfolding(crate::specs::Walk::field_at))]
-pub(super) fn append<'a>(
+pub(super) fn read_into<'a>(
     fields: &mut Vec<Field<'a, '_>>,
     alloc: Global,
     reader: &mut BitReader<'a>,
@@ -130,8 +130,8 @@ pub(super) fn append<'a>(
     ensures { AppendsNext (plain.OfInteger octets) field reader.old reader.new fields.old fields.new
         result }
 {
-    let front = examine(reader, octets, field)?;
-    let number = integer_of(alloc, &front)?;
+    let front = take_value(reader, octets, field)?;
+    let number = read_signed(alloc, &front)?;
     fields.push_reserved(Field::Integer(number));
     Ok(())
 }

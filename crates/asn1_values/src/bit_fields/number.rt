@@ -16,36 +16,33 @@ use asn1_bits::{BitAppender, BitReader, Turns, overwrite_number};
 
 /// The width, if it is at most 128 and the number is below 2 to its power.
 #[inline(always)]
-pub(super) fn fitting_len(value: u128, width: usize, place: usize) -> Result<u128, WriteError>
-    ensures { Measures place (plain.Number value width) result }
+pub(super) fn len_or_misfit(value: u128, width: usize, field: usize) -> Result<u128, WriteError>
+    ensures { Measures field (plain.Number value width) result }
 {
     // A short number that fits has no upper word, and nothing of its lower one above its width.
     if width < 64 {
         if (value >> 64) as u64 == 0 && (value as u64) >> width == 0 {
             return Ok(width as u128);
         }
-        return fitting_wide(value, width, place);
+        return fitting_wide(value, width, field);
     }
     // Of a longer one the upper word alone is shifted.
     if width < 128 && (value >> 64) as u64 >> (width - 64) == 0 {
         return Ok(width as u128);
     }
-    fitting_wide(value, width, place)
+    fitting_wide(value, width, field)
 }
 
-/// The path of `fitting_len` for any number.
+/// The path of `len_or_misfit` for any number.
 #[inline(always)]
-fn fitting_wide(value: u128, width: usize, place: usize) -> Result<u128, WriteError>
-    ensures { Measures place (plain.Number value width) result }
+fn fitting_wide(value: u128, width: usize, field: usize) -> Result<u128, WriteError>
+    ensures { Measures field (plain.Number value width) result }
 {
     if width > 128 {
-        return Err(WriteError::NumberWidth {
-            field: place,
-            width,
-        });
+        return Err(WriteError::NumberWidth { field, width });
     }
     if width < 128 && value >> width != 0 {
-        return Err(WriteError::Number { field: place });
+        return Err(WriteError::Number { field });
     }
     Ok(width as u128)
 }
@@ -99,7 +96,7 @@ pub(super) fn overwrite_digits(
 /// Goes past a number, and gives it.
 #[inline(always)]
 #[tactic(auto, unfolding(crate::specs::Walk::field_at, crate::specs::Walk::cut_at))]
-pub(super) fn examine(
+pub(super) fn take_value(
     reader: &mut BitReader<'_>,
     width: usize,
     field: usize,
@@ -120,7 +117,7 @@ pub(super) fn examine(
 }
 
 /// Appends the next number to the fields, for which there is room.
-pub(super) fn append<'a>(
+pub(super) fn read_into<'a>(
     fields: &mut Vec<Field<'a, '_>>,
     reader: &mut BitReader<'a>,
     width: usize,
@@ -130,7 +127,7 @@ pub(super) fn append<'a>(
     ensures { AppendsNext (plain.OfNumber width) field reader.old reader.new fields.old fields.new
         result }
 {
-    let value = examine(reader, width, field)?;
+    let value = take_value(reader, width, field)?;
     fields.push_reserved(Field::Number { value, width });
     Ok(())
 }

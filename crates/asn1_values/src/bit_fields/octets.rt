@@ -19,7 +19,7 @@ use std::alloc::Global;
 
 /// How many bits the octets have.
 #[inline(always)]
-pub(super) fn fitting_len(octets: &Octets<'_>) -> u128
+pub(super) fn len_or_misfit(octets: &Octets<'_>) -> u128
     ensures { FitsIn (plain.Octets (octets_in octets.now)) result }
 {
     8 * octets.as_ref().len() as u128
@@ -65,7 +65,7 @@ pub(super) fn overwrite_octets(target: &mut [u8], position: usize, octets: &[u8]
 
 /// Goes past `count` octets, and gives them.
 #[tactic(auto, unfolding(crate::specs::Walk::field_at, crate::specs::Walk::cut_at))]
-pub(super) fn examine<'a>(
+pub(super) fn take_value<'a>(
     reader: &mut BitReader<'a>,
     count: usize,
     field: usize,
@@ -77,7 +77,7 @@ pub(super) fn examine<'a>(
 }
 
 /// Appends the next `count` octets to the fields, for which there is room.
-pub(super) fn append<'a>(
+pub(super) fn read_into<'a>(
     fields: &mut Vec<Field<'a, '_>>,
     alloc: Global,
     reader: &mut BitReader<'a>,
@@ -88,7 +88,7 @@ pub(super) fn append<'a>(
     ensures { AppendsNext (plain.OfOctets count) field reader.old reader.new fields.old fields.new
         result }
 {
-    let octets = examine(reader, count, field)?.octets(alloc)?;
+    let octets = take_value(reader, count, field)?.octets(alloc)?;
     fields.push_reserved(Field::Octets(octets));
     Ok(())
 }

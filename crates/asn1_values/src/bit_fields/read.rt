@@ -14,9 +14,9 @@ ghost use Rattle.asn1_values.specs.Walk.{fields_at};
 ghost use Rattle.asn1_values.specs.Wrong.{CanBegin};
 
 use super::error::ReadError;
-use super::examine::examine_all;
 use super::field::Field;
 use super::shape::Shape;
+use super::skip::skip_all;
 use super::{bits, character, counted_integer, identifier, integer, number, octets};
 use asn1_bits::BitReader;
 use std::alloc::Global;
@@ -24,7 +24,7 @@ use std::alloc::Global;
 /// Reads a field of each shape from the front of the reader, which is left after them. If a field
 /// is invalid, the reader is unchanged. It first allocates room for all fields; copied octets, long
 /// integers and identifiers allocate their own. `Memory` is the last error: if an allocation fails,
-/// all fields are examined again, without memory.
+/// all fields are read again, without memory.
 pub fn read_fields<'a, 's>(
     alloc: Global,
     reader: &mut BitReader<'a>,
@@ -104,7 +104,7 @@ fn refusal_of(reader: BitReader<'_>, shapes: &[Shape<'_>], met: ReadError) -> Re
     ensures { IsReadRefusal (bits_left reader.entry) (plain_shapes shapes.now) result }
 {
     match met {
-        ReadError::Memory => match examine_all(reader, shapes) {
+        ReadError::Memory => match skip_all(reader, shapes) {
             Ok(()) => ReadError::Memory,
             Err(wrong) => wrong,
         },
@@ -143,13 +143,13 @@ fn append_next<'a, 's>(
         result }
 {
     match shape {
-        Shape::Number { width } => number::append(fields, reader, *width, field)?,
-        Shape::Octets { count } => octets::append(fields, alloc, reader, *count, field)?,
-        Shape::Bits { length } => bits::append(fields, reader, *length, field)?,
-        Shape::Integer { octets } => integer::append(fields, alloc, reader, *octets, field)?,
-        Shape::Character { alphabet } => character::append(fields, reader, alphabet, field)?,
-        Shape::CountedInteger => counted_integer::append(fields, alloc, reader, field)?,
-        Shape::Oid { octets } => identifier::append(fields, alloc, reader, *octets, field)?,
+        Shape::Number { width } => number::read_into(fields, reader, *width, field)?,
+        Shape::Octets { count } => octets::read_into(fields, alloc, reader, *count, field)?,
+        Shape::Bits { length } => bits::read_into(fields, reader, *length, field)?,
+        Shape::Integer { octets } => integer::read_into(fields, alloc, reader, *octets, field)?,
+        Shape::Character { alphabet } => character::read_into(fields, reader, alphabet, field)?,
+        Shape::CountedInteger => counted_integer::read_into(fields, alloc, reader, field)?,
+        Shape::Oid { octets } => identifier::read_into(fields, alloc, reader, *octets, field)?,
     }
     Ok(())
 }

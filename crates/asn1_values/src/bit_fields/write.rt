@@ -97,7 +97,7 @@ fn append_all(buffer: &mut BitBuffer, fields: &[Field<'_, '_>], turns: &mut Turn
         turns.new.count result }
 {
     let len = buffer.len();
-    let end = end_of(len, fields)?;
+    let end = append_end_if_all_fit(len, fields)?;
     push_or_back(buffer, end - len, fields, turns)
 }
 
@@ -139,7 +139,7 @@ fn refusal_of(len: usize, fields: &[Field<'_, '_>]) -> WriteError
     requires { CanBeRefused len (plain_fields fields.now) }
     ensures { IsTheRefusal len (plain_fields fields.now) result }
 {
-    match new_len(len, fields) {
+    match end_or_misfit(len, fields) {
         Err(misfit) => misfit,
         Ok(end) if end > usize::MAX as u128 => WriteError::TooLong,
         Ok(_) => WriteError::Memory,
@@ -149,7 +149,7 @@ fn refusal_of(len: usize, fields: &[Field<'_, '_>]) -> WriteError
 /// The length after the fields, without checking that characters have codes. `None` if a field of
 /// another kind does not fit, or the length exceeds `usize::MAX`.
 #[inline(always)]
-fn end_of(len: usize, fields: &[Field<'_, '_>]) -> Option<usize>
+fn append_end_if_all_fit(len: usize, fields: &[Field<'_, '_>]) -> Option<usize>
     ensures { MatchOption result
         ((list : List Bool) → AreSpelledBy (plain_fields fields.now) list → 2 ^ 64 ≤ len
         + length list)
@@ -157,14 +157,14 @@ fn end_of(len: usize, fields: &[Field<'_, '_>]) -> Option<usize>
 {
     let mut end = len;
     for field in fields {
-        end = end_behind(end, len_of(field)?)?;
+        end = end_after(end, len_if_fits(field)?)?;
     }
     Some(end)
 }
 
 /// The end of so many bits after another end. `None` if it exceeds `usize::MAX`.
 #[inline(always)]
-pub(super) fn end_behind(end: usize, additional: u128) -> Option<usize>
+pub(super) fn end_after(end: usize, additional: u128) -> Option<usize>
     ensures { MatchOption result (2 ^ 64 ≤ end + additional) (λ n. n ≡ end + additional) }
 {
     if additional > usize::MAX as u128 {
@@ -180,25 +180,25 @@ pub(super) fn end_behind(end: usize, additional: u128) -> Option<usize>
 /// Returns the number of a field's bits: the alphabet's width for a character; for another kind the
 /// bits that encode it, if it fits.
 #[inline(always)]
-fn len_of(field: &Field<'_, '_>) -> Option<u128>
+fn len_if_fits(field: &Field<'_, '_>) -> Option<u128>
     ensures { MatchOption result (Fits (plain_field field.now) → ⊥)
         (HasLength TakesBits (plain_field field.now)) }
 {
     match field {
         Field::Character { alphabet, .. } => Some(alphabet.width() as u128),
-        other => fitting_len(other, 0).ok(),
+        other => len_or_misfit(other, 0).ok(),
     }
 }
 
 /// The length after the fields, if all fit. The sum saturates at `u128::MAX`, and later fields are
 /// still examined.
 #[inline(always)]
-pub(super) fn new_len(len: usize, fields: &[Field<'_, '_>]) -> Result<u128, WriteError>
+pub(super) fn end_or_misfit(len: usize, fields: &[Field<'_, '_>]) -> Result<u128, WriteError>
     ensures { MeasuresAll len (plain_fields fields.now) result }
 {
     let mut end = len as u128;
     for (i, field) in fields.iter().enumerate() {
-        end = sum_of(end, fitting_len(field, i)?);
+        end = sum_of(end, len_or_misfit(field, i)?);
     }
     Ok(end)
 }
@@ -225,20 +225,20 @@ fn past_all_lengths(one: u128, other: u128) -> u128
 
 /// The number of a field's bits, if it fits.
 #[inline(always)]
-pub(super) fn fitting_len(field: &Field<'_, '_>, place: usize) -> Result<u128, WriteError>
-    ensures { Measures place (plain_field field.now) result }
+pub(super) fn len_or_misfit(field: &Field<'_, '_>, index: usize) -> Result<u128, WriteError>
+    ensures { Measures index (plain_field field.now) result }
 {
     match field {
-        Field::Number { value, width } => number::fitting_len(*value, *width, place),
-        Field::Octets(octets) => Ok(octets::fitting_len(octets)),
-        Field::Bits(bits) => Ok(bits::fitting_len(bits)),
-        Field::Integer(number) => Ok(integer::fitting_len(number)),
+        Field::Number { value, width } => number::len_or_misfit(*value, *width, index),
+        Field::Octets(octets) => Ok(octets::len_or_misfit(octets)),
+        Field::Bits(bits) => Ok(bits::len_or_misfit(bits)),
+        Field::Integer(number) => Ok(integer::len_or_misfit(number)),
         Field::Character {
             character,
             alphabet,
-        } => character::fitting_len(alphabet, *character, place),
-        Field::CountedInteger(number) => counted_integer::fitting_len(number, place),
-        Field::Oid(oid) => identifier::fitting_len(oid, place),
+        } => character::len_or_misfit(alphabet, *character, index),
+        Field::CountedInteger(number) => counted_integer::len_or_misfit(number, index),
+        Field::Oid(oid) => identifier::len_or_misfit(oid, index),
     }
 }
 

@@ -9,7 +9,7 @@ ghost use Rattle.asn1_values.specs.Steps.{EndsAt, EndWithin, FitsWithin, Overwri
 
 use super::error::WriteError;
 use super::field::Field;
-use super::write::{end_behind, fitting_len, new_len};
+use super::write::{end_after, end_or_misfit, len_or_misfit};
 use super::{bits, character, counted_integer, identifier, integer, number, octets};
 
 /// Writes the fields' bits over those of the octets from bit `position` on, one after another, and
@@ -49,46 +49,46 @@ pub fn write_fields_at(
         ≡ Err e }
     ensures unchanged { OnErr result (octets.new ≡ octets.old) }
 {
-    let end = end_at(position, fields)?;
+    let end = overwrite_end(position, fields)?;
     if end > usize::MAX as u128 || end > 8 * octets.len() as u128 {
         return Err(WriteError::TooLong);
     }
     Ok(overwrite_all(octets, position, fields))
 }
 
-/// The place after the fields, if all fit.
+/// The bit after the fields, if all fit.
 #[inline(always)]
-fn end_at(position: usize, fields: &[Field<'_, '_>]) -> Result<u128, WriteError>
+fn overwrite_end(position: usize, fields: &[Field<'_, '_>]) -> Result<u128, WriteError>
     ensures { MeasuresAll position (plain_fields fields.now) result }
 {
-    match fitting_end(position, fields) {
+    match overwrite_end_if_all_fit(position, fields) {
         Some(end) => Ok(end as u128),
-        None => far_end(position, fields),
+        None => overwrite_end_or_misfit(position, fields),
     }
 }
 
-/// The place after the fields, if all fit and `usize` counts it. It names no misfit.
+/// The bit after the fields, if all fit and `usize` counts it. It does not say which field does not fit.
 #[inline(always)]
-fn fitting_end(position: usize, fields: &[Field<'_, '_>]) -> Option<usize>
+fn overwrite_end_if_all_fit(position: usize, fields: &[Field<'_, '_>]) -> Option<usize>
     ensures { IfSome result (EndsAt IsSpelledBy position (plain_fields fields.now)) }
 {
     let mut end = position;
     for field in fields {
-        let Ok(additional) = fitting_len(field, 0) else {
+        let Ok(additional) = len_or_misfit(field, 0) else {
             return None;
         };
-        end = end_behind(end, additional)?;
+        end = end_after(end, additional)?;
     }
     Some(end)
 }
 
-/// The path of `end_at` for fields that do not fit, or that end far after.
+/// The path of `overwrite_end` for fields that do not fit, or that end far after.
 #[cold]
 #[inline(never)]
-fn far_end(position: usize, fields: &[Field<'_, '_>]) -> Result<u128, WriteError>
+fn overwrite_end_or_misfit(position: usize, fields: &[Field<'_, '_>]) -> Result<u128, WriteError>
     ensures { MeasuresAll position (plain_fields fields.now) result }
 {
-    new_len(position, fields)
+    end_or_misfit(position, fields)
 }
 
 /// Writes fields that end within the target, and returns the bit after them.

@@ -3,7 +3,7 @@
 ghost use Rattle.std.specs.Prelude.{◌≡◌, ◌∷◌, []};
 
 use crate::strings::octet_strings::lent_octets;
-use asn1_characters::{FixedOctetString, OctetString};
+use asn1_strings::{FixedOctetString, OctetString};
 use asn1_test_rows::{RowError, hex_of, octets, show_value, two, wrong};
 use std::alloc::Global;
 

@@ -1,7 +1,7 @@
 //! The calls that some strings alone have: their octets, and what becomes of them.
 
 use asn1_strings::{
-    AsBytes, AsText, BmpString, FromBytes, General, Graphic, Ia5, Iso646, Numeric,
+    AsText, BmpString, General, Graphic, HasAsBytes, HasFromBytes, Ia5, IsIso646, Numeric,
     PermittedAlphabetError, Printable, RestrictedString, StaticPermittedAlphabet, Teletex,
     Utf8String, Visible,
 };
@@ -29,7 +29,10 @@ pub fn answer(alloc: Global, name: &str, words: &[&str]) -> Result<String, RowEr
 }
 
 /// The octets of a string by `from_bytes` and `as_bytes`.
-fn of_octets<K: FromBytes + AsBytes>(alloc: Global, octets: &[u8]) -> Result<String, RowError> {
+fn of_octets<K: HasFromBytes + HasAsBytes>(
+    alloc: Global,
+    octets: &[u8],
+) -> Result<String, RowError> {
     match RestrictedString::<K>::from_bytes(alloc, octets) {
         Ok(string) => hex_of(alloc, string.as_bytes()),
         Err(error) => show_value(alloc, error),
@@ -58,14 +61,14 @@ fn of_teletex(
     }
 }
 
-fn of_iso646<K: Iso646>(alloc: Global, name: &str, octets: &[u8]) -> Result<String, RowError> {
+fn of_iso646<K: IsIso646>(alloc: Global, name: &str, octets: &[u8]) -> Result<String, RowError> {
     match RestrictedString::<K>::from_iso646_bytes(alloc, octets) {
         Ok(string) => of_text(alloc, name, string),
         Err(error) => show_value(alloc, error),
     }
 }
 
-fn of_text<K: Iso646>(
+fn of_text<K: IsIso646>(
     alloc: Global,
     name: &str,
     string: RestrictedString<K>,
@@ -102,7 +105,10 @@ fn into_string(alloc: Global, text: Utf8String) -> Result<String, RowError> {
     hex_of(alloc, text.as_bytes())
 }
 
-fn into_octets<K: Iso646>(alloc: Global, string: RestrictedString<K>) -> Result<String, RowError> {
+fn into_octets<K: IsIso646>(
+    alloc: Global,
+    string: RestrictedString<K>,
+) -> Result<String, RowError> {
     match string.into_octet_string() {
         Ok(octets) => hex_of(alloc, octets.as_ref()),
         Err(_) => show_value(alloc, "the string came back"),

@@ -1,6 +1,6 @@
 //! Octet strings.
 
-use asn1_characters::OctetString;
+use asn1_strings::OctetString;
 use asn1_test_rows::{RowError, hex_of, octets, show_value, wrong};
 use bytes::Bytes;
 use std::alloc::Global;

@@ -7,5 +7,5 @@ use Rattle.asn1_number.proofs.values.shortest_of.Goals as goal
 pub returns : goal.returns
 returns c =
     subst (IsShortest c.args.number)
-    (sym (c.end_of.ensures ∙ (c.words_of-start.ensures.octets ∙ ap shortest_octets (to_z-of_z c.ranges.number))))
+    (sym (c.end_of.ensures ∙ (c.shortest_in_words-start.ensures.octets ∙ ap shortest_octets (to_z-of_z c.ranges.number))))
     (shortest_octets_are c.args.number)

@@ -8,4 +8,4 @@ use Rattle.asn1_strings.proofs.key_maps.string_of_numbers.Goals as goal
 pub returns : goal.returns
 returns g c =
     rw (keyed_itself g.S.HasCharacterSet.CHARACTER_SET_NAME
-    (map number (pieces c.args.characters.width (bits_of c.args.characters.bits)))) at c.string_at_keys.ensures
+    (map number (pieces c.args.characters.width (bits_of c.args.characters.bits)))) at c.decode_string.ensures

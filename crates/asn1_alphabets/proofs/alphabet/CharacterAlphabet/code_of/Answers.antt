@@ -9,7 +9,7 @@ pub returns-else-self-2-clause-code : goal.returns-else-self-2-clause-code
 returns-else-self-2-clause-code c =
     let alphabet = c.args.self.now in
     let has : has_character (set_of alphabet.name (some_if alphabet.kept alphabet.set)) c.args.character ≡ true =
-    sym (ap (λ set. has_character set c.args.character) (c.of.ensures ∙ alphabet.known.listing c.if-self.true))
+    sym (ap (λ set. has_character set c.args.character) (c.of.ensures ∙ alphabet.known.layout c.if-self.true))
     ∙ stands_in (range_with_len c.of.result.first c.of.result.count) c.in_ok-place.place c.args.character
     c.in_ok-place.ensures.place in
     rw c.if-self-2.false (has, refl)

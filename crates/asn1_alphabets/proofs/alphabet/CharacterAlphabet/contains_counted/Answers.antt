@@ -11,10 +11,10 @@ returns-then-self-clause-value c =
     c.is_some.ensures
     ∙ found_is (range_with_len c.of.result.first c.of.result.count) c.args.character c.place.result
     c.place.ensures.place
-    ∙ ap (λ set. has_character set c.args.character) (c.of.ensures ∙ known.listing c.if-self.true)
+    ∙ ap (λ set. has_character set c.args.character) (c.of.ensures ∙ known.layout c.if-self.true)
 
 pub returns-then-self-2-clause-value : goal.returns-then-self-2-clause-value
 returns-then-self-2-clause-value c =
-    let worded = c.args.self.now.known.worded c.args.self.now.words (rw c.if-self-2.true refl) in
+    let has_words = c.args.self.now.known.has_words c.args.self.now.words (rw c.if-self-2.true refl) in
     c.contains.ensures ∙ has_by_words (set_of c.args.self.now.name (some_if c.args.self.now.kept c.args.self.now.set))
-    c.args.self.now.words c.args.character worded
+    c.args.self.now.words c.args.character has_words

@@ -5,8 +5,8 @@ use Rattle.asn1_characters.specs.declared.character_set.CharacterSetName.TheVari
 use Rattle.asn1_alphabets.proofs.AlphabetLemmas.{some_words}
 use Rattle.asn1_alphabets.proofs.effective_set.EffectiveSet.words.Goals as goal
 
-pub returns-in_default-clause-worded : goal.returns-in_default-clause-worded
-returns-in_default-clause-worded c =
+pub returns-in_default-clause-has_words : goal.returns-in_default-clause-has_words
+returns-in_default-clause-has_words c =
     rw c.in-Base.is (some_words (base_set c.in-Base.name) c.words.result
     (record { below = largest_small c.in-Base.name c.in_default.not-Bmp; same = c.words.ensures }))
 

@@ -7,17 +7,17 @@ use Rattle.asn1_bits.proofs.bit_str.BitStr.first_u128.Goals as goal
 few : (g : Over) (c : goal.After-from g) → IsFront (view_of c.args.self.now) c.args.width c.from.result
 few g c =
     let v = view_of c.args.self.now in
-    front-read v c.args.width c.from.result c.args.self.now.within c.requires.len (c.from.ensures ∙ c.read_few.ensures)
+    front-read v c.args.width c.from.result c.args.self.now.within c.requires.len (c.from.ensures ∙ c.read_57.ensures)
 
 many : (g : Over) (c : goal.After-from-then-width-le64 g) → IsFront (view_of c.args.self.now) c.args.width c.from-then-width-le64.result
 many g c =
     let v = view_of c.args.self.now in
-    front-read v c.args.width c.from-then-width-le64.result c.args.self.now.within c.requires.len (c.from-then-width-le64.ensures ∙ c.read_many.ensures)
+    front-read v c.args.width c.from-then-width-le64.result c.args.self.now.within c.requires.len (c.from-then-width-le64.ensures ∙ c.read_64.ensures)
 
-long : (g : Over) (c : goal.After-read_long g) → IsFront (view_of c.args.self.now) c.args.width c.read_long.result
+long : (g : Over) (c : goal.After-read_128 g) → IsFront (view_of c.args.self.now) c.args.width c.read_128.result
 long g c =
     let v = view_of c.args.self.now in
-    front-read v c.args.width c.read_long.result c.args.self.now.within c.requires.len c.read_long.ensures
+    front-read v c.args.width c.read_128.result c.args.self.now.within c.requires.len c.read_128.ensures
 
 pub returns-then-width-le57-clause-number : goal.returns-then-width-le57-clause-number
 returns-then-width-le57-clause-number g c = (few g c).number

@@ -8,5 +8,5 @@ pub returns : goal.returns
 unfolding list_of
 returns c =
     let b = c.args.self.now in
-    c.read_many.ensures
+    c.read_64.ensures
     ∙ ap number (sym (take-take 64 b.len (drop (8 * b.octet + b.shift) (bits b.storage.now)) c.requires))

@@ -15,7 +15,7 @@ returns c =
     let from : 8 * (b.octet + (b.len / 8 - 8)) + b.shift ≡ 8 * b.octet + b.shift + at =
     omega (arith, c.requires.some, c.requires.whole) in
     let many : length (bits_of b) ≡ b.len = length-list_of (view_of b) b.within in
-    ap (λ (n : ℕ). digits n 64) (c.read_many.ensures
+    ap (λ (n : ℕ). digits n 64) (c.read_64.ensures
     ∙ ap (λ (k : ℕ). number (take 64 (drop k (bits b.storage.now)))) from
     ∙ ap number (cut-storage (view_of b) at 64 (omega (arith, c.requires.some))))
     ∙ digits_of-number piece 64

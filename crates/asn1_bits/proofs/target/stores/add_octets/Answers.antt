@@ -32,7 +32,7 @@ returns c =
     let whole : bits octets ≡ digits c.args.word 64 = ap bits c.to_be_bytes.ensures ∙ bits-bytes 8 c.args.word in
     let zeros = zeros-behind_begun c.args.position (bits old) c.requires.zeros
     (omega (arith, length-bits old, c.requires.eight)) in
-    eight-ored old c.set_octets.new.dst c.to_le_bytes.result (digits c.args.word 64) first c.set_octets.ensures
+    eight-ored old c.store_octets.new.dst c.to_le_bytes.result (digits c.args.word 64) first c.store_octets.ensures
     c.requires.eight (omega (arith, length-digits c.args.word 64))
     (words-or begun octets c.to_le_bytes.result o turned
     (sym (le_bytes_8 begun o refl (begun-small o small) (omega arith)))

@@ -8,7 +8,7 @@ use Rattle.asn1_bits.proofs.target.stores.or_eight.Goals as goal
 pub returns : goal.returns
 returns c =
     let octets = take 8 (drop c.args.at c.args.src.now) in
-    eight-ored c.args.dst.now c.set_octets.new.dst c.to_ne_bytes.result (bits octets) c.args.first c.set_octets.ensures
+    eight-ored c.args.dst.now c.store_octets.new.dst c.to_ne_bytes.result (bits octets) c.args.first c.store_octets.ensures
     c.requires.room
     (omega (arith, length-bits octets, length-take 8 (drop c.args.at c.args.src.now)))
     (words-or (take 8 (drop c.args.first c.args.dst.now)) octets c.to_ne_bytes.result c.load_native.result

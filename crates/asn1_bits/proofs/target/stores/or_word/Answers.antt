@@ -14,7 +14,7 @@ pub returns-then-position-dst : goal.returns-then-position-dst
 returns-then-position-dst c =
     let j = 64 - c.args.width in
     let same : j % 64 ≡ j = omega (arith, c.if-width-eq0.false) in
-    c.or_last.ensures
+    c.or_near_end.ensures
     ∙ ap (λ (k : ℕ). ored (bits c.args.dst.now) c.args.position (digits (c.args.word * 2 ^ k % 2 ^ 64 / 2 ^ j) c.args.width)) same
     ∙ ap (ored (bits c.args.dst.now) c.args.position) (up-down c.args.word c.args.width c.requires.width)
 

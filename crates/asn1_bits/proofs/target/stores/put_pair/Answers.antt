@@ -19,7 +19,7 @@ pub returns : goal.returns
 returns c =
     let old = bits c.args.dst.now in
     let one = bits c.add_octets.new.dst in
-    let two = bits c.set_octets.new.dst in
+    let two = bits c.store_octets.new.dst in
     let q = c.args.position / 8 in
     let pair = c.args.number * 2 ^ (128 - c.args.width - c.args.position % 8) % 2 ^ 128 in
     let low = bit_and pair 0xFFFF_FFFF_FFFF_FFFF in
@@ -33,7 +33,7 @@ returns c =
     put-moved 16 old two c.args.position c.args.number c.args.width c.requires.some c.requires.width
     (omega (arith, n, c.requires.sixteen)) c.requires.below
     (placed-two old one two (8 * q) (8 * (q + 8)) pair 64 64 128 c.add_octets.ensures
-    (put-eight c.add_octets.new.dst c.set_octets.new.dst c.to_be_bytes.result (q + 8) low c.set_octets.ensures
+    (put-eight c.add_octets.new.dst c.store_octets.new.dst c.to_be_bytes.result (q + 8) low c.store_octets.ensures
     c.to_be_bytes.ensures zeros
     (omega (arith, c.add_octets.auto.dst, c.requires.sixteen))
     ∙ ap (ored one (8 * (q + 8))) (digits-lowest pair 64 (omega arith)))

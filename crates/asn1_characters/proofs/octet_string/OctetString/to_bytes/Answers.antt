@@ -1,5 +1,0 @@
-use Rattle.std.proofs.Common.{rules}
-use Rattle.asn1_characters.proofs.octet_string.OctetString.to_bytes.Goals as goal
-
-pub returns-clause-octets : goal.returns-clause-octets
-returns-clause-octets c = search rules
