@@ -12,10 +12,11 @@ ghost use Rattle.asn1_strings.specs.Strings.{Answers, character_octets, string_o
 use crate::chars::Chars;
 use crate::code_unit::CodeUnit;
 use crate::key_maps::{string_of_bits_in, string_of_numbers};
+use crate::octet_string::OctetString;
 use crate::pieces::{BitPieces, OctetPieces};
 use asn1_bits::{BitStr, BitString};
 use asn1_characters::{
-    CharacterRanges, CharacterSetName, HasCharacterSet, InvalidRestrictedString, OctetString,
+    CharacterRanges, CharacterSetName, HasCharacterSet, InvalidRestrictedString,
     PermittedAlphabetError,
 };
 use std::alloc::{AllocError, Global};
