@@ -18,8 +18,8 @@ use asn1_characters::{
     PermittedAlphabetError,
 };
 
-/// Whether characters of a set are written by their places in `width` bits, since its largest
-/// character does not fit them. The largest of no characters is 0. `width` is at most 31.
+/// Returns whether characters are encoded by their indices in `width` bits: the largest of the set,
+/// or 0 for an empty set, does not fit them. The width must be at most 31.
 pub fn should_be_indexed(width: u32, set: &[u32]) -> bool
     requires { width ≤ 31 }
     ensures { result ≡ is_indexed width set.now }
@@ -27,8 +27,8 @@ pub fn should_be_indexed(width: u32, set: &[u32]) -> bool
     1 << width <= largest_of(set)
 }
 
-/// An alphabet: a set of characters, their width in bits, and whether a character is written by its
-/// place in the set or by its value. No call allocates.
+/// A set of characters, their width in bits, and whether a character is encoded by its index in the
+/// set or by its value. No call allocates.
 #[derive(Clone, Copy, Debug)]
 pub struct CharacterAlphabet<'s> {
     name: CharacterSetName,
@@ -53,10 +53,9 @@ impl<'s> CharacterAlphabet<'s> {
     ghost use Rattle.asn1_alphabets.specs.AlphabetView.{alphabet_of};
     ghost use Rattle.asn1_alphabets.specs.EffectiveSets.{name_of, permitted_of, characters_of};
 
-    /// The alphabet of the string `S` with a permitted set. The permitted set is effective if `S`
-    /// is written by places or needs more bits than the set does; otherwise the base set is. An
-    /// effective permitted set may hold characters that the base set lacks. The permitted set has
-    /// at most 2^32 characters.
+    /// Returns the alphabet of the string `S`. Its set is the permitted set if `S` is indexed or
+    /// needs more bits than that set, otherwise the base set. A permitted set may hold characters
+    /// that the base set lacks. The permitted set must have at most 2^32 characters.
     #[inline(always)]
     pub fn new<S: HasCharacterSet>(
         permitted: Option<&'s [u32]>,
@@ -109,7 +108,7 @@ impl<'s> CharacterAlphabet<'s> {
         CharacterAlphabet::of_set(EffectiveSet::of(name, set, aligned), aligned)
     }
 
-    /// How many bits each character takes, at most 32.
+    /// Returns the width of a character in bits, at most 32.
     pub fn width(&self) -> usize
         ensures value { result ≡ (alphabet_of self.now).width }
         ensures bound { result ≤ 32 }
@@ -118,14 +117,14 @@ impl<'s> CharacterAlphabet<'s> {
         self.width as usize
     }
 
-    /// Whether a character is written by its place in the set, otherwise by its value.
+    /// Returns whether a character is encoded by its index in the set, otherwise by its value.
     pub fn is_indexed(&self) -> bool
         ensures { result ≡ (alphabet_of self.now).indexed }
     {
         self.indexed
     }
 
-    /// How many characters the effective set has.
+    /// Returns the number of characters of the effective set.
     pub fn len(&self) -> usize
         ensures { result ≡ length (alphabet_of self.now).characters }
     {
@@ -135,15 +134,18 @@ impl<'s> CharacterAlphabet<'s> {
         }
     }
 
-    /// Whether the effective set has the character.
+    /// Returns whether the effective set has the character.
     pub fn contains(&self, character: u32) -> bool
         ensures { result ≡ has_character (alphabet_of self.now).characters character }
     {
         self.contains_counted(character, &mut Turns::new())
     }
 
-    /// A code of the character. Where it has none, it is `CharacterNotFound` in a permitted set,
-    /// and the string's own error in a base set.
+    /// Returns a code of the character.
+    ///
+    /// # Errors
+    ///
+    /// If it has none: `CharacterNotFound` for a permitted set, the string's own for a base set.
     #[inline(always)]
     pub fn encode(&self, character: u32) -> Result<u32, PermittedAlphabetError>
         ensures { Encodes (alphabet_of self.now) character result }
@@ -151,8 +153,8 @@ impl<'s> CharacterAlphabet<'s> {
         self.encode_counted(character, &mut Turns::new())
     }
 
-    /// `encode` with a counter of probes. In an ascending set of more than 64 characters it makes
-    /// at most w + 1 probes, where w is the least width in which its characters have codes.
+    /// Encodes as `encode`, with its errors, and counts probes: at most w + 1 in an ascending set
+    /// of more than 64 characters, where w is the least width in bits in which they have codes.
     #[inline(always)]
     pub fn encode_counted(
         &self,
@@ -173,8 +175,11 @@ impl<'s> CharacterAlphabet<'s> {
         }
     }
 
-    /// Returns the character of the code: `IndexNotFound` for an index that exceeds the set, and
-    /// the error of `encode` for a value that is not in the set.
+    /// Returns the character of the code.
+    ///
+    /// # Errors
+    ///
+    /// If there is none: `IndexNotFound` if the alphabet is indexed, otherwise as `encode`.
     #[inline(always)]
     pub fn decode(&self, code: u32) -> Result<u32, PermittedAlphabetError>
         ensures character { Decodes (alphabet_of self.now) code result }
@@ -188,7 +193,7 @@ impl<'s> CharacterAlphabet<'s> {
         }
     }
 
-    /// Whether the set has a character twice. Where it has none, each character has one code.
+    /// Returns whether the set has a character twice. If not, each character has one code.
     pub fn repeats(&self) -> bool
         ensures twice { let set = (alphabet_of self.now).characters in
             MatchBool result (¬ (AllPairs (λ a b. a ≢ b) set)) (AllPairs (λ a b. a ≢ b) set) }

@@ -1,10 +1,10 @@
-//! The alphabets in which PER writes the characters of a string (X.691 30.5), over the base sets
+//! The alphabets in which PER encodes the characters of a string (X.691 30.5), over the base sets
 //! of `asn1_characters`.
 //!
-//! An alphabet is of an effective set: the permitted set of a string, where X.691 30.5 says that it
-//! takes effect, and otherwise the string's base set. It gives each character of that set a code,
-//! which is the character's place in the set or its value. A place in a long ascending set is found
-//! by halves. No call takes memory.
+//! An alphabet is of an effective set: the permitted set of a string if X.691 30.5 says that it
+//! takes effect, otherwise the string's base set. It gives each character of that set a code, which
+//! is the character's index in the set or its value. A binary search finds an index in a long
+//! ascending set. No call allocates.
 #![tactic(auto)]
 
 mod alphabet;

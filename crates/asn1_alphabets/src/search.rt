@@ -7,7 +7,7 @@ ghost use Rattle.asn1_characters.specs.Widths.{ceil_log2};
 use asn1_bits::Turns;
 use std::fmt;
 
-/// A list of numbers, of which one look at an entry is a probe.
+/// A list of numbers. One look at an entry is a probe.
 pub trait Entries {
     /// The list.
     ghost list: { Self → List ℕ };
@@ -16,11 +16,13 @@ pub trait Entries {
     /// ticks.
     ghost looks: { Self → ℕ };
 
-    /// How many entries it has.
+    /// Returns the number of entries.
     fn count(&self) -> usize
         ensures { result ≡ length (list self.now) };
 
-    /// The entry at a place: one look, and one probe.
+    /// Returns the entry at an index, by one look and one probe.
+    ///
+    /// The index must be below the number of entries.
     fn entry(&mut self, i: usize, probes: &mut Turns) -> u32
         requires { i < length (list self.old) }
         ensures value { result ≡ slice_index (list self.old) i }
@@ -29,7 +31,7 @@ pub trait Entries {
         ensures probe { probes.new.count ≡ probes.old.count + 1 };
 }
 
-/// A list in memory and how often it was looked at, a number that takes no bytes.
+/// A list in memory, and the number of looks at it, which takes no bytes.
 #[derive(Drop)]
 pub struct CountedSlice<'a> {
     /// The list.
@@ -39,7 +41,7 @@ pub struct CountedSlice<'a> {
 }
 
 impl<'a> CountedSlice<'a> {
-    /// The list, with no look at it yet.
+    /// Returns the list, with no look at it yet.
     pub fn at(entries: &'a [u32]) -> CountedSlice<'a>
         ensures list { result.entries.now ≡ entries.now }
         ensures none { result.taken.count ≡ 0 }
@@ -95,9 +97,11 @@ pub(crate) fn find_one_by_one<L: Entries>(
     None
 }
 
-/// A place of the character in an ascending list, and None where the list lacks it. Among N
-/// entries it makes at most w + 1 probes, w being the least width in which N things have codes, and
-/// at least one where it answers a place. Each probe is a look at the list.
+/// Returns an index of the character in an ascending list, or `None` if the list lacks it. Among N
+/// entries it makes at most w + 1 probes, where w is the least width in bits in which N things have
+/// codes, and at least one if it returns an index. Each probe is a look at the list.
+///
+/// The list must be ascending: no entry is below the one before it.
 pub fn find_ascending<L: Entries>(
     entries: &mut L,
     character: u32,

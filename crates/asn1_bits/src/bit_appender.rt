@@ -1,4 +1,4 @@
-//! Digits and octets, written into room that a buffer made at once.
+//! Digits and octets, written into room that a buffer has allocated at once.
 
 ghost use Rattle.std.specs.Prelude.{◌≡◌, ◌+◌, ◌-◌, ◌*◌, ◌^◌, ◌<◌, ◌≤◌, ◌++◌, length, IsOk, IfOk};
 ghost use Rattle.std.specs.Int.{div_ceil};
@@ -28,8 +28,14 @@ impl BitBuffer {
     ghost use Rattle.asn1_bits.specs.contracts.bit_buffer.BitBuffer.{the_row};
     ghost use Rattle.asn1_bits.specs.BitAppender.{bits_written, room, lender_of, words_placed, EndsInZeros};
 
-    /// Appends `additional` zero bits, by one growth, for the appender to fill. Where memory is
-    /// wanting, the bits stay. The new length fits `usize`.
+    /// Appends `additional` zero bits in one growth, and returns an appender that fills them.
+    ///
+    /// The new length must fit `usize`.
+    ///
+    /// # Errors
+    ///
+    /// Returns `AllocError` if out of memory; the bits are then unchanged. It never fails if no
+    /// octet is added.
     pub fn appender(&mut self, additional: usize) -> Result<BitAppender<'_>, AllocError>
         requires { length self.old + additional < 2 ^ 64 }
         // If out of memory, the buffer is unchanged; otherwise it ends as the appender leaves it.
@@ -40,7 +46,7 @@ impl BitBuffer {
         ensures room { IfOk result (λ a. room a ≡ additional) }
         ensures held { IfOk result EndsInZeros }
         ensures none_placed { IfOk result (λ a. words_placed a ≡ 0) }
-        // Where no octet is added, no memory is asked for.
+        // If no octet is added, it allocates nothing.
         ensures free { AddsNoOctet (length self.old) additional → IsOk result }
     {
         let position = self.len();
@@ -63,7 +69,9 @@ impl<'a> BitAppender<'a> {
     }
 
     /// Pushes the lowest `width` binary digits of `value`, most significant first, as one word that
-    /// takes no turn. `width` is at most 32 and at most the room.
+    /// takes no turn.
+    ///
+    /// The width must be at most 32 and at most the room.
     pub fn push(&mut self, value: u32, width: usize)
         requires width { width ≤ 32 }
         requires room { width ≤ room self.old }
@@ -82,8 +90,10 @@ impl<'a> BitAppender<'a> {
         self.target.put_few(position, number, width);
     }
 
-    /// Pushes the lowest `width` binary digits of `value`, most significant first, and ticks once
-    /// for each 64 of them. `width` is at most 128 and at most the room.
+    /// Pushes the lowest `width` binary digits of `value`, most significant first. It takes one
+    /// turn for each word that is written.
+    ///
+    /// The width must be at most 128 and at most the room.
     #[inline(always)]
     pub fn push_wide(&mut self, value: u128, width: usize, turns: &mut Turns)
         requires width { width ≤ 128 }
@@ -100,8 +110,11 @@ impl<'a> BitAppender<'a> {
         self.push_number(lowest_wide(value, width), width, turns);
     }
 
-    /// Pushes a number below 2 to the `width` by its `width` binary digits, most significant first,
-    /// and ticks once for each 64 of them. `width` is at most 128 and at most the room.
+    /// Pushes the `width` binary digits of a number, most significant first. It takes one turn for
+    /// each word that is written.
+    ///
+    /// The number must be below 2 to the power of `width`. The width must be at most 128 and at
+    /// most the room.
     #[inline(always)]
     pub fn push_number(&mut self, number: u128, width: usize, turns: &mut Turns)
         requires width { width ≤ 128 }
@@ -125,7 +138,9 @@ impl<'a> BitAppender<'a> {
         self.target.put_number(position, number, width, turns);
     }
 
-    /// Pushes the bits of the octets, and ticks once for each 64 of them. They fit the room.
+    /// Pushes the bits of the octets. It takes one turn for each word that is written.
+    ///
+    /// The octets must fit the room.
     pub fn push_octets(&mut self, octets: &[u8], turns: &mut Turns)
         requires { 8 * length octets.now ≤ room self.old }
         ensures lender { lender_of self.new ≡ lender_of self.old }
@@ -143,7 +158,9 @@ impl<'a> BitAppender<'a> {
         self.push_bitslice(BitStr::from_octets(octets), turns);
     }
 
-    /// Pushes the bits of the view, and ticks once for each 64 of them. They fit the room.
+    /// Pushes the bits of the view. It takes one turn for each word that is written.
+    ///
+    /// The view must fit the room.
     pub fn push_bitslice(&mut self, src: BitStr<'_>, turns: &mut Turns)
         requires { (view_of src).len ≤ room self.old }
         ensures lender { lender_of self.new ≡ lender_of self.old }

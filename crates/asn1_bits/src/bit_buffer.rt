@@ -38,7 +38,7 @@ impl Model for BitBuffer {
 }
 
 impl BitBuffer {
-    /// An empty buffer. It allocates nothing.
+    /// Returns an empty buffer. It allocates nothing.
     pub fn new(alloc: Global) -> BitBuffer
         ensures { result ≡ [] }
     {
@@ -48,8 +48,8 @@ impl BitBuffer {
         }
     }
 
-    /// An empty buffer that reuses the vector's allocation. The vector's octets are dropped;
-    /// `BitString::from_vec` keeps them.
+    /// Returns an empty buffer that reuses the vector's allocation. The vector's octets are
+    /// dropped; `BitString::from_vec` keeps them.
     pub fn from_vec(mut bytes: Vec<u8>) -> BitBuffer
         ensures { result ≡ [] }
     {
@@ -57,7 +57,7 @@ impl BitBuffer {
         BitBuffer { bytes, len: 0 }
     }
 
-    /// The number of bits.
+    /// Returns the number of bits.
     pub fn len(&self) -> usize
         ensures { result ≡ length self.now }
     {
@@ -72,7 +72,7 @@ impl BitBuffer {
         self.len = 0;
     }
 
-    /// Keeps the first `len` bits and removes the others, if there are any. The allocation stays.
+    /// Keeps the first `len` bits and removes any others. The allocation stays.
     pub fn truncate(&mut self, len: usize)
         ensures { self.new ≡ take len self.old }
     {
@@ -84,10 +84,13 @@ impl BitBuffer {
         self.len = len;
     }
 
-    /// Copies the buffer. Returns an error only if out of memory.
+    /// Copies the buffer.
+    ///
+    /// # Errors
+    ///
+    /// Returns `AllocError` if out of memory; an empty buffer is always copied.
     pub fn clone(&self) -> Result<BitBuffer, AllocError>
         ensures list { IfOk result (λ b. b ≡ self.now) }
-        // For no bits it allocates nothing.
         ensures free { self.now ≡ [] → IsOk result }
     {
         if self.len() == 0 {
@@ -99,7 +102,7 @@ impl BitBuffer {
         })
     }
 
-    /// The octets of the list: its bits, then zeros to the octet's end.
+    /// Returns the octets of the list: its bits, then zeros to the octet's end.
     pub fn as_bytes(&self) -> &[u8]
         ensures spelled { bits result.now ≡ padded self.now }
         ensures count { length result.now ≡ octets_for (length self.now) }
@@ -109,7 +112,7 @@ impl BitBuffer {
         known_octets(octets)
     }
 
-    /// The octets of the list: its bits, then zeros to the octet's end.
+    /// Returns the octets of the list: its bits, then zeros to the octet's end.
     pub fn into_vec(self) -> Vec<u8>
         ensures spelled { bits result.items ≡ padded self }
         ensures count { vec_len result ≡ octets_for (length self) }
@@ -121,7 +124,7 @@ impl BitBuffer {
         bytes
     }
 
-    /// Sets bit `index` to `bit`. `index` is below the length.
+    /// Sets bit `index` to `bit`. The index must be below the length.
     pub fn set(&mut self, index: usize, bit: bool)
         requires { index < length self.old }
         ensures { self.new ≡ slice_set self.old index bit }
@@ -129,11 +132,14 @@ impl BitBuffer {
         set_bit(self.bytes.as_mut_slice(), index, bit);
     }
 
-    /// Makes room for `additional` more octets, or returns an error if out of memory.
-    /// Appending that many octets then allocates nothing; no clause says so.
+    /// Reserves room for `additional` more octets. No clause says that appends then allocate
+    /// nothing.
+    ///
+    /// # Errors
+    ///
+    /// Returns `AllocError` if out of memory, never for 0 octets. The bits are unchanged.
     pub fn reserve_bytes(&mut self, additional: usize) -> Result<(), AllocError>
         ensures same { self.new ≡ self.old }
-        // For no octet it allocates nothing.
         ensures free { additional ≡ 0 → IsOk result }
     {
         if additional == 0 {
@@ -142,14 +148,17 @@ impl BitBuffer {
         self.bytes.reserve(additional)
     }
 
-    /// Appends copies of `bit` until there are `new_len` bits. `new_len` is at least the length.
-    /// Returns an error if out of memory; the bits are unchanged then.
+    /// Appends copies of `bit` until there are `new_len` bits. The new length must be at least the
+    /// old.
+    ///
+    /// # Errors
+    ///
+    /// Returns `AllocError` if out of memory, never if no octet is added. The bits are unchanged.
     pub fn resize(&mut self, new_len: usize, bit: bool) -> Result<(), AllocError>
         requires { length self.old ≤ new_len }
         ensures ok { OnOk result
             (self.new ≡ self.old ++ replicate (new_len - length self.old) bit) }
         ensures err { OnErr result (self.new ≡ self.old) }
-        // Where no octet is added, no memory is asked for.
         ensures free { AddsNoOctet (length self.old) (new_len - length self.old) → IsOk result }
     {
         let position = self.len();
@@ -162,12 +171,15 @@ impl BitBuffer {
         Ok(())
     }
 
-    /// Appends the bit. Where memory is wanting, the bits stay. The new length fits `usize`.
+    /// Appends the bit. The new length must fit `usize`.
+    ///
+    /// # Errors
+    ///
+    /// Returns `AllocError` if out of memory, never if no octet is added. The bits are unchanged.
     pub fn push(&mut self, bit: bool) -> Result<(), AllocError>
         requires { length self.old + 1 < 2 ^ 64 }
         ensures ok { OnOk result (self.new ≡ self.old ++ bit ∷ []) }
         ensures err { OnErr result (self.new ≡ self.old) }
-        // Where no octet is added, no memory is asked for.
         ensures free { AddsNoOctet (length self.old) 1 → IsOk result }
     {
         let position = self.len();
@@ -176,8 +188,12 @@ impl BitBuffer {
         Ok(())
     }
 
-    /// Appends the lowest `width` binary digits of `value`, most significant first. Where memory is
-    /// wanting, the bits stay. `width` is at most 128, and the new length fits `usize`.
+    /// Appends the lowest `width` binary digits of `value`, most significant first. The width must
+    /// be at most 128, and the new length must fit `usize`.
+    ///
+    /// # Errors
+    ///
+    /// Returns `AllocError` if out of memory, never if no octet is added. The bits are unchanged.
     #[inline(always)]
     pub fn push_bits(&mut self, value: u128, width: usize) -> Result<(), AllocError>
         requires width { width ≤ 128 }
@@ -185,7 +201,6 @@ impl BitBuffer {
         ensures ok { OnOk result (self.new ≡ self.old ++ digits value width) }
         ensures len { OnOk result (length self.new ≡ length self.old + width) }
         ensures err { OnErr result (self.new ≡ self.old) }
-        // Where no octet is added, no memory is asked for.
         ensures free { AddsNoOctet (length self.old) width → IsOk result }
     {
         let position = self.len;
@@ -226,14 +241,16 @@ impl BitBuffer {
         Ok(())
     }
 
-    /// Appends the bits of the octets. Where memory is wanting, the bits stay. The new length fits
-    /// `usize`.
+    /// Appends the bits of the octets. The new length must fit `usize`.
+    ///
+    /// # Errors
+    ///
+    /// Returns `AllocError` if out of memory, never if no octet is added. The bits are unchanged.
     pub fn extend_from_bytes(&mut self, src: &[u8]) -> Result<(), AllocError>
         requires { length self.old + 8 * length src.now < 2 ^ 64 }
         ensures ok { OnOk result (self.new ≡ self.old ++ bits src.now) }
         ensures len { OnOk result (length self.new ≡ length self.old + 8 * length src.now) }
         ensures err { OnErr result (self.new ≡ self.old) }
-        // Where no octet is added, no memory is asked for.
         ensures free { AddsNoOctet (length self.old) (8 * length src.now) → IsOk result }
     {
         if self.len % 8 == 0 {
@@ -246,14 +263,16 @@ impl BitBuffer {
         self.extend_from_bitslice(BitStr::from_octets(src))
     }
 
-    /// Appends the bits of the view. Where memory is wanting, the bits stay. The new length fits
-    /// `usize`.
+    /// Appends the bits of the view. The new length must fit `usize`.
+    ///
+    /// # Errors
+    ///
+    /// Returns `AllocError` if out of memory, never if no octet is added. The bits are unchanged.
     pub fn extend_from_bitslice(&mut self, src: BitStr<'_>) -> Result<(), AllocError>
         requires { length self.old + (view_of src).len < 2 ^ 64 }
         ensures ok { OnOk result (self.new ≡ self.old ++ bits_of src.entry) }
         ensures len { OnOk result (length self.new ≡ length self.old + (view_of src.entry).len) }
         ensures err { OnErr result (self.new ≡ self.old) }
-        // Where no octet is added, no memory is asked for.
         ensures free { AddsNoOctet (length self.old) (view_of src.entry).len → IsOk result }
     {
         let position = self.len();
@@ -262,19 +281,21 @@ impl BitBuffer {
         Ok(())
     }
 
-    /// Appends the bits of the other buffer. Where memory is wanting, the bits stay. The new length
-    /// fits `usize`.
+    /// Appends the bits of the other buffer. The new length must fit `usize`.
+    ///
+    /// # Errors
+    ///
+    /// Returns `AllocError` if out of memory, never if no octet is added. The bits are unchanged.
     pub fn extend_from_buffer(&mut self, src: &BitBuffer) -> Result<(), AllocError>
         requires { length self.old + length src.now < 2 ^ 64 }
         ensures ok { OnOk result (self.new ≡ self.old ++ src.now) }
         ensures err { OnErr result (self.new ≡ self.old) }
-        // Where no octet is added, no memory is asked for.
         ensures free { AddsNoOctet (length self.old) (length src.now) → IsOk result }
     {
         self.extend_from_bitslice(src.as_bitstr())
     }
 
-    /// Borrows the list as a view.
+    /// Returns the list as a view of its octets.
     pub fn as_bitstr(&self) -> BitStr<'_>
         ensures list { bits_of result ≡ self.now }
         ensures len { (view_of result).len ≡ length self.now }

@@ -11,21 +11,23 @@ use crate::bit_str::BitStr;
 use crate::octets::Octets;
 use std::alloc::{AllocError, Global};
 
-/// The view that is left of an input.
+/// A reader of bits: the view that is left of an input.
 #[derive(Clone, Copy, Debug)]
 pub struct BitReader<'a> {
     view: BitStr<'a>,
 }
 
 impl<'a> BitReader<'a> {
-    /// A reader over all of the view.
+    /// Returns a reader over all of the view.
     pub fn new(view: BitStr<'a>) -> BitReader<'a>
         ensures { view_left result ≡ view_of view.entry }
     {
         BitReader { view }
     }
 
-    /// A reader over all bits of the octets. How many they are fits `usize`.
+    /// Returns a reader over all bits of the octets.
+    ///
+    /// The number of bits must fit `usize`.
     pub fn from_octets(octets: &'a [u8]) -> BitReader<'a>
         requires { 8 * length octets.now < 2 ^ 64 }
         ensures view { view_left result ≡ whole octets.now }
@@ -36,14 +38,14 @@ impl<'a> BitReader<'a> {
         }
     }
 
-    /// The view that is left.
+    /// Returns the view that is left.
     pub fn bits(&self) -> BitStr<'a>
         ensures { view_of result ≡ view_left self.now }
     {
         self.view
     }
 
-    /// The number of bits that are left.
+    /// Returns the number of bits that are left.
     pub fn len(&self) -> usize
         ensures len { result ≡ (view_left self.now).len }
         ensures list { result ≡ length (bits_left self.now) }
@@ -51,7 +53,8 @@ impl<'a> BitReader<'a> {
         self.view.len()
     }
 
-    /// Borrows the octets that are left, if they lie on octet boundaries of the storage.
+    /// Borrows the octets that are left, or returns `None` if they do not lie on octet boundaries
+    /// of the storage.
     pub fn aligned_octets(&self) -> Option<&'a [u8]>
         ensures aligned { IsSome result ↔ IsAligned (view_left self.now) }
         ensures bits { IfSome result (λ o. bits o.now ≡ bits_left self.now) }
@@ -61,15 +64,22 @@ impl<'a> BitReader<'a> {
         self.view.aligned()
     }
 
-    /// The octets that are left, copied only where they do not lie on octet boundaries of the
-    /// storage. What is left is whole octets. Returns an error only if out of memory.
+    /// Returns the octets that are left: borrowed if they lie on octet boundaries of the storage,
+    /// otherwise copied.
+    ///
+    /// The number of bits that are left must be a multiple of 8.
+    ///
+    /// # Errors
+    ///
+    /// Returns `AllocError` if out of memory. It never fails if the octets are borrowed or there
+    /// are none.
     pub fn octets(&self, alloc: Global) -> Result<Octets<'a>, AllocError>
         requires { (view_left self.now).len % 8 ≡ 0 }
         ensures bits { IfOk result (λ o. bits (octets_in o) ≡ bits_left self.now) }
         ensures count { IfOk result (λ o. 8 * length (octets_in o) ≡ (view_left self.now).len) }
         ensures octets { IfOk result (λ o. All (λ octet. octet < 256) (octets_in o)) }
         ensures borrowed { IfOk result (λ o. IsBorrowed o ↔ IsAligned (view_left self.now)) }
-        // Where they are borrowed, or there are none, no memory is asked for.
+        // If they are borrowed, or there are none, it allocates nothing.
         ensures free_aligned { IsAligned (view_left self.now) → IsOk result }
         ensures free { (view_left self.now).len ≡ 0 → IsOk result }
     {
@@ -81,8 +91,12 @@ impl<'a> BitReader<'a> {
         Ok(Octets::Owned(octets))
     }
 
-    /// Takes the first `count` bits. If fewer are left, the reader stays, and the error is the
-    /// number of bits that are missing.
+    /// Takes the first `count` bits.
+    ///
+    /// # Errors
+    ///
+    /// Returns the number of missing bits if fewer than `count` are left. The reader is then
+    /// unchanged.
     #[inline(always)]
     pub fn split(&mut self, count: usize) -> Result<BitReader<'a>, usize>
         ensures short { IsErr result ↔ ((view_left self.old).len < count) }
@@ -107,7 +121,9 @@ impl<'a> BitReader<'a> {
         Ok(BitReader { view: front })
     }
 
-    /// The first bit. There is one.
+    /// Returns the first bit. The reader is unchanged.
+    ///
+    /// The reader must have at least one bit left.
     pub fn first_bit(&self) -> bool
         requires { 0 < (view_left self.now).len }
         ensures { slice_get (bits_left self.now) 0 ≡ Some result }
@@ -115,8 +131,10 @@ impl<'a> BitReader<'a> {
         self.view.get(0)
     }
 
-    /// The number of the first `width` bits, the first of them its highest digit. `width` is at
-    /// most 32, and at most the length.
+    /// Returns the number that the first `width` bits encode, most significant first. The reader is
+    /// unchanged.
+    ///
+    /// The width must be at most 32, and at most the length.
     #[inline(always)]
     pub fn first_bits(&self, width: usize) -> u32
         requires width { width ≤ 32 }
@@ -129,8 +147,10 @@ impl<'a> BitReader<'a> {
         number as u32
     }
 
-    /// The number of the first `width` bits, the first of them its highest digit. `width` is at
-    /// most 128, and at most the length.
+    /// Returns the number that the first `width` bits encode, most significant first. The reader is
+    /// unchanged.
+    ///
+    /// The width must be at most 128, and at most the length.
     #[inline(always)]
     pub fn first_u128(&self, width: usize) -> u128
         requires width { width ≤ 128 }

@@ -38,7 +38,8 @@ impl<'a> BitStr<'a> {
     ghost use Rattle.asn1_bits.specs.BitStr.{view_of, bits_of};
     ghost use Rattle.asn1_bits.specs.View.{whole, part, IsAligned};
 
-    /// The `len` bits of the octets from bit `first` on; None where they have fewer.
+    /// Returns the `len` bits of the octets from bit `first` on, or `None` if the octets have
+    /// fewer.
     pub fn new(octets: &'a [u8], first: usize, len: usize) -> Option<BitStr<'a>>
         ensures none { IsNone result ↔ (8 * length octets.now < first + len) }
         ensures some { IfSome result
@@ -50,7 +51,9 @@ impl<'a> BitStr<'a> {
         Some(BitStr::part_of(octets, first, len))
     }
 
-    /// All bits of the octets. How many they are fits `usize`.
+    /// Returns a view of all bits of the octets.
+    ///
+    /// The number of bits must fit `usize`.
     pub fn from_octets(octets: &'a [u8]) -> BitStr<'a>
         requires { 8 * length octets.now < 2 ^ 64 }
         ensures view { view_of result ≡ whole octets.now }
@@ -59,7 +62,7 @@ impl<'a> BitStr<'a> {
         BitStr::part_of(octets, 0, octets.len() * 8)
     }
 
-    /// The number of bits.
+    /// Returns the number of bits.
     pub fn len(&self) -> usize
         ensures len { result ≡ (view_of self.now).len }
         ensures list { result ≡ length (bits_of self.now) }
@@ -67,21 +70,23 @@ impl<'a> BitStr<'a> {
         self.len
     }
 
-    /// Whether the view is empty.
+    /// Returns whether the view is empty.
     pub fn is_empty(&self) -> bool
         ensures { IsTrue result ↔ ((view_of self.now).len ≡ 0) }
     {
         self.len == 0
     }
 
-    /// How many bits of the first octet lie before the view.
+    /// Returns the number of bits of the first octet that lie before the view.
     pub fn shift(&self) -> usize
         ensures { result ≡ (view_of self.now).first % 8 }
     {
         self.shift
     }
 
-    /// Bit `i`. `i` is below the length.
+    /// Returns bit `i`.
+    ///
+    /// The index must be below the length.
     pub fn get(&self, i: usize) -> bool
         requires { i < (view_of self.now).len }
         ensures { slice_get (bits_of self.now) i ≡ Some result }
@@ -89,7 +94,9 @@ impl<'a> BitStr<'a> {
         bit_from(self.storage, self.octet, self.shift, i)
     }
 
-    /// The `len` bits from bit `from` on. They lie within the view.
+    /// Returns the `len` bits from bit `from` on.
+    ///
+    /// The bits must lie within the view.
     #[inline(always)]
     pub fn slice(&self, from: usize, len: usize) -> BitStr<'a>
         requires { from + len ≤ (view_of self.now).len }
@@ -105,7 +112,9 @@ impl<'a> BitStr<'a> {
         }
     }
 
-    /// Splits the view at bit `at`, which is at most the length.
+    /// Splits the view at bit `at`.
+    ///
+    /// The index must be at most the length.
     #[inline(always)]
     pub fn split_at(&self, at: usize) -> (BitStr<'a>, BitStr<'a>)
         requires { at ≤ (view_of self.now).len }

@@ -27,7 +27,7 @@ impl Model for BitString {
 }
 
 impl BitString {
-    /// Returns no bits. It allocates nothing.
+    /// Returns an empty bit string. It allocates nothing.
     pub fn new(alloc: Global) -> BitString
         ensures { result ≡ [] }
     {
@@ -36,7 +36,9 @@ impl BitString {
         }
     }
 
-    /// All bits of the octets. How many they are fits `usize`.
+    /// Returns the bits of the octets.
+    ///
+    /// The number of bits must fit `usize`.
     pub fn from_vec(octets: Vec<u8>) -> BitString
         requires { 8 * vec_len octets < 2 ^ 64 }
         ensures { result ≡ bits octets.items }
@@ -46,21 +48,21 @@ impl BitString {
         }
     }
 
-    /// How many bits it has.
+    /// Returns the number of bits.
     pub fn len(&self) -> usize
         ensures { result ≡ length self.now }
     {
         self.buffer.len()
     }
 
-    /// Whether it has no bits.
+    /// Returns whether there are no bits.
     pub fn is_empty(&self) -> bool
         ensures { IsTrue result ↔ (length self.now ≡ 0) }
     {
         self.len() == 0
     }
 
-    /// The list as a view of its octets.
+    /// Returns the list as a view of its octets.
     pub fn as_bitstr(&self) -> BitStr<'_>
         ensures list { bits_of result ≡ self.now }
         ensures len { (view_of result).len ≡ length self.now }
@@ -70,14 +72,14 @@ impl BitString {
         self.buffer.as_bitstr()
     }
 
-    /// Keeps the first `len` bits; nothing changes where it has no more.
+    /// Keeps the first `len` bits and removes any others.
     pub fn truncate(&mut self, len: usize)
         ensures { self.new ≡ take len self.old }
     {
         self.buffer.truncate(len);
     }
 
-    /// The octets: the list, then zeros to the octet's end.
+    /// Returns the octets: the list, then zeros to the octet's end.
     pub fn as_raw_slice(&self) -> &[u8]
         ensures spelled { bits result.now ≡ padded self.now }
         ensures count { length result.now ≡ octets_for (length self.now) }
@@ -86,7 +88,7 @@ impl BitString {
         self.buffer.as_bytes()
     }
 
-    /// The octets: the list, then zeros to the octet's end.
+    /// Returns the octets: the list, then zeros to the octet's end.
     pub fn into_vec(self) -> Vec<u8>
         ensures spelled { bits result.items ≡ padded self }
         ensures count { vec_len result ≡ octets_for (length self) }
@@ -96,7 +98,11 @@ impl BitString {
         buffer.into_vec()
     }
 
-    /// A copy. Returns an error only if out of memory.
+    /// Copies the list.
+    ///
+    /// # Errors
+    ///
+    /// Returns `AllocError` if out of memory. An empty list is always copied.
     pub fn clone(&self) -> Result<BitString, AllocError>
         ensures list { IfOk result (λ s. s ≡ self.now) }
         // For no bits it allocates nothing.
@@ -108,20 +114,30 @@ impl BitString {
     }
 }
 
-/// Appends the bits of the view. Where memory is wanting, the bits stay. The new length fits
-/// `usize`.
+/// Appends the bits of the view.
+///
+/// The new length must fit `usize`.
+///
+/// # Errors
+///
+/// Returns `AllocError` if out of memory; the bits are then unchanged. It never fails if no octet
+/// is added.
 pub fn extend_bitstring(dst: &mut BitString, src: BitStr<'_>) -> Result<(), AllocError>
     requires { length dst.old + (view_of src).len < 2 ^ 64 }
     ensures ok { OnOk result (dst.new ≡ dst.old ++ bits_of src.entry) }
     ensures len { OnOk result (length dst.new ≡ length dst.old + (view_of src.entry).len) }
     ensures err { OnErr result (dst.new ≡ dst.old) }
-    // Where no octet is added, no memory is asked for.
+    // If no octet is added, it allocates nothing.
     ensures free { AddsNoOctet (length dst.old) (view_of src.entry).len → IsOk result }
 {
     dst.buffer.extend_from_bitslice(src)
 }
 
-/// A copy of the view. Returns an error only if out of memory.
+/// Copies the view.
+///
+/// # Errors
+///
+/// Returns `AllocError` if out of memory. An empty view is always copied.
 pub fn to_bitstring(alloc: Global, src: BitStr<'_>) -> Result<BitString, AllocError>
     ensures list { IfOk result (λ s. s ≡ bits_of src.entry) }
     ensures len { IfOk result (λ s. length s ≡ (view_of src.entry).len) }

@@ -11,8 +11,8 @@ use crate::turns::Turns;
 use std::cmp::Ordering;
 use std::hash::{Hash, Hasher};
 
-/// `N` bits, in the first of `N` octets' bits; the others are zero. Its equality, order and hash
-/// are those of the `N` bits.
+/// A list of `N` bits, kept in the first bits of `N` octets. The other bits are zero. Its equality,
+/// order and hash are those of the `N` bits.
 #[derive(Clone, Copy, Debug)]
 pub struct FixedBitString<const N: usize> {
     octets: [u8; N],
@@ -22,21 +22,21 @@ pub struct FixedBitString<const N: usize> {
 impl<const N: usize> FixedBitString<N> {
     ghost use Rattle.asn1_bits.specs.FixedBitString.{fixed_bits};
 
-    /// All zeros.
+    /// Returns `N` zeros.
     pub fn zero() -> Self
         ensures { fixed_bits N result ≡ replicate N false }
     {
         FixedBitString { octets: [0; N] }
     }
 
-    /// The first `N` bits of the octets. The others are not kept.
+    /// Returns the first `N` bits of the octets. The others are not kept.
     pub fn new(octets: [u8; N]) -> Self
         ensures { fixed_bits N result ≡ take N (bits octets.entry) }
     {
         FixedBitString::of_view(BitStr::part_of(&octets, 0, N))
     }
 
-    /// The bits of the view; None where they are not `N`.
+    /// Returns the bits of the view, or `None` if there are not `N`.
     pub fn from_bitstr(src: BitStr<'_>) -> Option<Self>
         ensures none { IsNone result ↔ ((view_of src.entry).len ≢ N) }
         ensures same { IsSome result → (view_of src.entry).len ≡ N }
@@ -48,7 +48,9 @@ impl<const N: usize> FixedBitString<N> {
         Some(FixedBitString::of_view(src))
     }
 
-    /// Bit `i`. `i` is below `N`.
+    /// Returns bit `i`.
+    ///
+    /// The index must be below `N`.
     pub fn get(&self, i: usize) -> bool
         requires { i < N }
         ensures { slice_get (fixed_bits N self.now) i ≡ Some result }
@@ -56,7 +58,9 @@ impl<const N: usize> FixedBitString<N> {
         bit_from(&self.octets, 0, 0, i)
     }
 
-    /// Makes bit `i` that bit. `i` is below `N`.
+    /// Sets bit `i` to `bit`.
+    ///
+    /// The index must be below `N`.
     pub fn set(&mut self, i: usize, bit: bool)
         requires { i < N }
         ensures { fixed_bits N self.new ≡ slice_set (fixed_bits N self.old) i bit }
@@ -64,7 +68,7 @@ impl<const N: usize> FixedBitString<N> {
         set_bit(&mut self.octets, i, bit);
     }
 
-    /// The `N` bits as a view of its octets, whose other bits are zero.
+    /// Returns the `N` bits as a view of the octets, whose other bits are zero.
     pub fn as_bitstr(&self) -> BitStr<'_>
         ensures list { bits_of result ≡ fixed_bits N self.now }
         ensures first { (view_of result).first ≡ 0 }

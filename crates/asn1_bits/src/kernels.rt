@@ -20,8 +20,11 @@ use crate::turns::Turns;
 use crate::window::eight;
 use std::alloc::AllocError;
 
-/// ORs the first `count` bits of `src` into `dst` from bit `position` on, and leaves every other
-/// bit. Both lie within their octets, and end at a bit that `usize` counts.
+/// ORs the first `count` bits of `src` into `dst` from bit `position` on. Every other bit is
+/// unchanged.
+///
+/// The bits must lie within `src` and, from `position` on, within `dst`. The bit after them must
+/// fit `usize`.
 pub fn or_bits(dst: &mut [u8], position: usize, src: &[u8], count: usize, turns: &mut Turns)
     requires source { count ≤ 8 * length src.now }
     requires room { position + count ≤ 8 * length dst.old }
@@ -33,8 +36,9 @@ pub fn or_bits(dst: &mut [u8], position: usize, src: &[u8], count: usize, turns:
     write_bitslice(dst, position, BitStr::part_of(src, 0, count), turns);
 }
 
-/// ORs the view into `dst` from bit `position` on, and leaves every other bit. It ends within
-/// `dst`, at a bit that `usize` counts.
+/// ORs the view into `dst` from bit `position` on. Every other bit is unchanged.
+///
+/// The bits must lie within `dst`, and the bit after them must fit `usize`.
 // The counted work is `or_view`, whose clause `each_turn_places` ties each store to a turn. It
 // can't see a walk that only reads, nor a store that would stand here, before the target is made:
 // so this is one line, as is `put_bitslice`.
@@ -283,8 +287,9 @@ fn copy_each_word(dst: &mut Target<'_>, first: usize, src: &[u8], turns: &mut Tu
     or_view(dst, 8 * (first + 8 * words), tail, turns);
 }
 
-/// The number of the `width` bits from bit `position` on, the first of them its highest digit.
-/// `width` is at most 128, and the bits lie within the octets.
+/// Returns the number that the `width` bits from bit `position` on encode, most significant first.
+///
+/// The width must be at most 128, and the bits must lie within the octets.
 #[inline(always)]
 pub fn read_wide(bytes: &[u8], position: usize, width: usize) -> u128
     requires width { width ≤ 128 }
@@ -296,8 +301,9 @@ pub fn read_wide(bytes: &[u8], position: usize, width: usize) -> u128
     BitStr::part_of(bytes, position, width).first_u128::<false>(width)
 }
 
-/// The number of the `width` bits from bit `position` on, the first of them its highest digit.
-/// `width` is at most 32, and the bits lie within the octets.
+/// Returns the number that the `width` bits from bit `position` on encode, most significant first.
+///
+/// The width must be at most 32, and the bits must lie within the octets.
 pub fn read_bits(bytes: &[u8], position: usize, width: usize) -> u32
     requires width { width ≤ 32 }
     requires within { position + width ≤ 8 * length bytes.now }
@@ -308,8 +314,9 @@ pub fn read_bits(bytes: &[u8], position: usize, width: usize) -> u32
     read_wide(bytes, position, width) as u32
 }
 
-/// The number of the view's bits, the first of them its highest digit. The view has at most 128
-/// bits.
+/// Returns the number that the view's bits encode, most significant first.
+///
+/// The view must have at most 128 bits.
 pub fn read_u128(src: BitStr<'_>) -> u128
     requires { (view_of src).len ≤ 128 }
     ensures number { result ≡ number (bits_of src.entry) }
@@ -319,7 +326,9 @@ pub fn read_u128(src: BitStr<'_>) -> u128
     src.first_u128::<true>(src.len())
 }
 
-/// The greatest number of `n` bits. `n` is at most 126.
+/// Returns the greatest number of `n` bits.
+///
+/// The number of bits must be at most 126.
 pub fn range_from_len(n: u32) -> i128
     requires { n ≤ 126 }
     ensures { result ≡ pos (2 ^ n - 1) }
@@ -327,7 +336,8 @@ pub fn range_from_len(n: u32) -> i128
     ((1u128 << n) - 1) as i128
 }
 
-/// The octets of the view, where it begins and ends at octets of its storage.
+/// Borrows the octets of the view, or returns `None` if it does not lie on octet boundaries of the
+/// storage.
 pub fn aligned_octets(src: BitStr<'_>) -> Option<&[u8]>
     ensures aligned { IsSome result ↔ IsAligned (view_of src.entry) }
     ensures bits { IfSome result (λ o. bits o.now ≡ bits_of src.entry) }
@@ -337,15 +347,21 @@ pub fn aligned_octets(src: BitStr<'_>) -> Option<&[u8]>
     src.aligned()
 }
 
-/// Appends the octets of the view to the vector. If out of memory, the vector is unchanged.
-/// The view is whole octets.
+/// Appends the octets of the view to the vector.
+///
+/// The number of bits must be a multiple of 8.
+///
+/// # Errors
+///
+/// Returns `AllocError` if out of memory; the vector's octets are then unchanged. An empty view
+/// never fails.
 pub fn extend_vec_from_bitslice(dst: &mut Vec<u8>, src: BitStr<'_>) -> Result<(), AllocError>
     requires { (view_of src).len % 8 ≡ 0 }
     ensures ok { OnOk result (bits dst.new.items ≡ bits dst.old.items ++ bits_of src.entry) }
     ensures front { OnOk result (take (vec_len dst.old) dst.new.items ≡ dst.old.items) }
     ensures octets { All (λ octet. octet < 256) dst.new.items }
     ensures err { OnErr result (dst.new.items ≡ dst.old.items) }
-    // Where no octet is added, no memory is asked for.
+    // If no octet is added, it allocates nothing.
     ensures free { (view_of src.entry).len ≡ 0 → IsOk result }
 {
     src.push_octets_to(dst)

@@ -14,7 +14,7 @@ pub enum Octets<'a> {
 }
 
 impl<'a> Octets<'a> {
-    /// The octets, borrowed or copied.
+    /// Returns the octets, borrowed or copied.
     pub fn as_ref(&self) -> &[u8]
         ensures list { result.now ≡ octets_in self.now }
         ensures octets { All (λ octet. octet < 256) (octets_in self.now) }

@@ -11,9 +11,10 @@ use crate::kernels::write_bitslice;
 use crate::target::Target;
 use crate::turns::Turns;
 
-/// Writes the view over the bits of `dst` from bit `position` on, and leaves every other bit. It
-/// clears the bits first, whole octets by one `fill`, and takes no turns for that. It ends within
-/// `dst`, at a bit that `usize` counts.
+/// Writes the view over the bits of `dst` from bit `position` on. Every other bit is unchanged. It
+/// clears the bits first, whole octets by one `fill`, and takes no turns for that.
+///
+/// The bits must lie within `dst`, and the bit after them must fit `usize`.
 pub fn overwrite_bitslice(dst: &mut [u8], position: usize, src: BitStr<'_>, turns: &mut Turns)
     requires room { position + (view_of src).len ≤ 8 * length dst.old }
     requires fits { position + (view_of src).len < 2 ^ 64 }
@@ -26,8 +27,10 @@ pub fn overwrite_bitslice(dst: &mut [u8], position: usize, src: BitStr<'_>, turn
 }
 
 /// Writes the lowest `width` binary digits of `value`, most significant first, over the bits of
-/// `dst` from bit `position` on, and leaves every other bit. `width` is at most 128, and they end
-/// within `dst`, at a bit that `usize` counts.
+/// `dst` from bit `position` on. Every other bit is unchanged.
+///
+/// The width must be at most 128. The bits must lie within `dst`, and the bit after them must fit
+/// `usize`.
 pub fn overwrite_number(
     dst: &mut [u8],
     position: usize,

@@ -12,7 +12,7 @@ use crate::target::Target;
 use crate::turns::Turns;
 use crate::window::or_words;
 
-/// A list of bits into which words are ORed, at any place.
+/// A list of bits into which words are ORed, at any bit.
 pub trait Places {
     /// The bits.
     ghost list: { Self → List Bool };
@@ -25,12 +25,14 @@ pub trait Places {
     /// says nothing of the borrowed slice.
     ghost reference: { Self → ℕ } = { λ _. 0 };
 
-    /// How many bits there are.
+    /// Returns the number of bits.
     fn len(&self) -> u128
         ensures { result ≡ length (list self.now) };
 
-    /// ORs the lowest `width` binary digits of `word` in from bit `position` on, and counts one
-    /// turn.
+    /// ORs the lowest `width` binary digits of `word` in from bit `position` on, most significant
+    /// first. It takes one turn.
+    ///
+    /// The width must be at most 64, and the bits must lie within the list.
     fn place(&mut self, position: usize, word: u64, width: usize, turns: &mut Turns)
         requires width { width ≤ 64 }
         requires within { position + width ≤ length (list self.old) }
@@ -58,8 +60,10 @@ impl Places for Target<'_> {
     }
 }
 
-/// ORs the view into the target from bit `position` on: a turn for each word of 64 bits, and one
-/// for the tail. It ends within the target, at a bit that `usize` counts.
+/// ORs the view into the target from bit `position` on. It takes one turn for each word that the
+/// target places.
+///
+/// The bits must lie within the target, and the bit after them must fit `usize`.
 pub fn place_bits<D: Places>(target: &mut D, position: usize, src: BitStr<'_>, turns: &mut Turns)
     requires fits { position + (view_of src).len < 2 ^ 64 }
     requires within { position + (view_of src).len ≤ length (D.list target.old) }

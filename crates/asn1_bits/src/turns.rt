@@ -7,8 +7,8 @@ use std::marker::Model;
 
 /// A counter of turns for proofs alone: it takes no bytes, nothing reads it at run time, and
 /// clauses see its number as `count`. A turn places one word of at most 64 bits, in at most two
-/// stores, or octet by octet where fewer than eight octets are left; a search takes one for each
-/// look. Where no count is wanted, pass `&mut Turns::new()`.
+/// stores, or octet by octet if fewer than eight octets are left; a search takes one for each look.
+/// If no count is needed, pass `&mut Turns::new()`.
 #[derive(Drop)]
 pub struct Turns {
     /// The number of turns counted.
@@ -20,7 +20,7 @@ impl Model for Turns {
 }
 
 impl Turns {
-    /// A counter at zero.
+    /// Returns a counter at zero.
     pub fn new() -> Turns
         ensures { result.count ≡ 0 }
     {

@@ -30,7 +30,7 @@ pub enum CharacterSetName {
 }
 
 impl CharacterSetName {
-    /// First and last character of each range (X.680 41), in the set's order.
+    /// Returns the first and last character of each range (X.680 41), in the set's order.
     pub const fn ranges(self) -> &'static [(u32, u32)]
         ensures value { result.now ≡ ranges_of self }
         ensures fine { (i : ℕ) → i < length result.now →
@@ -58,7 +58,7 @@ impl CharacterSetName {
         }
     }
 
-    /// How many characters the set has.
+    /// Returns the number of characters of the set.
     pub const fn count(self) -> u32
         ensures { result ≡ base_count self }
     {
@@ -74,7 +74,7 @@ impl CharacterSetName {
         }
     }
 
-    /// The least number of bits that gives each of its characters a code, at most 16.
+    /// Returns the least number of bits that gives each character of the set a code, at most 16.
     pub const fn width(self) -> usize
         ensures value { result ≡ base_width self }
         ensures bound { result ≤ 16 }
@@ -91,7 +91,7 @@ impl CharacterSetName {
         }
     }
 
-    /// Its largest character.
+    /// Returns the largest character of the set.
     pub const fn largest(self) -> u32
         ensures { result ≡ base_largest self }
     {
@@ -107,16 +107,16 @@ impl CharacterSetName {
         }
     }
 
-    /// Whether its characters are written by their places, since the largest does not fit the width
-    /// (X.691 30.5).
+    /// Returns whether characters are encoded by their indices, since the largest does not fit the
+    /// width (X.691 30.5).
     pub const fn is_indexed(self) -> bool
         ensures { result ≡ base_indexed self }
     {
         matches!(self, CharacterSetName::Numeric)
     }
 
-    /// Whether the set has the character: for `BmpString` by its range, otherwise by one look at
-    /// four words.
+    /// Returns whether the set has the character: for `BmpString` by its range, otherwise by one
+    /// look at four words.
     pub fn contains(self, character: u32) -> bool
         ensures { result ≡ has_character (base_set self) character }
     {
@@ -149,7 +149,9 @@ impl CharacterSetName {
         }
     }
 
-    /// The set as words. That of `BmpString` has characters from 256 on, so it has none.
+    /// Returns the set as words.
+    ///
+    /// The set must not be that of `BmpString`, which has characters from 256 on.
     pub fn words(self) -> CharacterWords
         requires { self ≢ Bmp }
         ensures { (c : ℕ) → c < 256 → in_words result.words c ≡ has_character (base_set self) c }
@@ -196,7 +198,7 @@ impl CharacterSetName {
         }
     }
 
-    /// The character at a place, and None past the set. Places count from 0.
+    /// Returns the character at an index, counted from 0, or `None` after the end of the set.
     pub fn character_at(self, place: u32) -> Option<u32>
         ensures { result ≡ slice_get (base_set self) place }
     {
@@ -210,7 +212,7 @@ impl CharacterSetName {
         }
     }
 
-    /// The place of a character, and None where the set lacks it. Places count from 0.
+    /// Returns the index of a character, counted from 0, or `None` if the set lacks it.
     pub fn place_of(self, character: u32) -> Option<u32>
         ensures { MatchOption result (has_character (base_set self) character ≡ false)
             (λ k. slice_get (base_set self) k ≡ Some character) }
@@ -261,19 +263,19 @@ impl CharacterSetName {
 /// The ranges of a base set, as a constant that says which set it is of.
 #[derive(Clone, Copy, Debug, PartialEq, Eq, PartialOrd, Ord, Hash)]
 pub struct CharacterRanges {
-    /// Whose ranges they are.
+    /// The string whose ranges they are.
     pub name: CharacterSetName,
 }
 
 impl CharacterRanges {
-    /// The ranges of the base set of this name.
+    /// Returns the ranges of the base set of this name.
     pub const fn of(name: CharacterSetName) -> CharacterRanges
         ensures { result.name ≡ name }
     {
         CharacterRanges { name }
     }
 
-    /// First and last character of each range (X.680 41), in the set's order.
+    /// Returns the first and last character of each range (X.680 41), in the set's order.
     pub const fn as_slice(self) -> &'static [(u32, u32)]
         ensures { result.now ≡ ranges_of self.name }
     {

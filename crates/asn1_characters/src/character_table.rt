@@ -6,8 +6,8 @@ ghost use Rattle.asn1_characters.specs.Sets.{base_set, is_listed};
 use crate::character_set::CharacterSetName;
 
 impl CharacterSetName {
-    /// The characters of `IA5String` and `VisibleString`, in the set's order. The other sets have
-    /// no table.
+    /// Returns the characters of `IA5String` or `VisibleString`, in the set's order, and `None` for
+    /// the other sets.
     pub fn table(self) -> Option<&'static [u32]>
         ensures lists { ForSome (option_copied result) (λ table. table ≡ base_set self) }
         ensures listed { is_some result ≡ is_listed self }

@@ -13,7 +13,7 @@ pub struct CharacterWords {
 }
 
 impl CharacterWords {
-    /// The set of these words, that of the least characters first.
+    /// Returns the set of these words, that of the least characters first.
     pub const fn new(first: u64, second: u64, third: u64, fourth: u64) -> CharacterWords
         ensures { result.words ≡ first ∷ second ∷ third ∷ fourth ∷ [] }
     {
@@ -22,7 +22,7 @@ impl CharacterWords {
         }
     }
 
-    /// Whether the set has the character. It has none from 256 on.
+    /// Returns whether the set has the character. It has none from 256 on.
     pub fn contains(&self, character: u32) -> bool
         ensures { result ≡ (nat_lt character 256 && in_words self.now.words character) }
     {
@@ -33,7 +33,9 @@ impl CharacterWords {
         (word >> (character % 64)) % 2 == 1
     }
 
-    /// The words of a list of characters below 256.
+    /// Returns the set of a list of characters.
+    ///
+    /// The characters must be below 256.
     pub fn of(set: &[u32]) -> CharacterWords
         requires { largest set.now < 256 }
         ensures { (c : ℕ) → c < 256 → in_words result.words c ≡ has_character set.now c }

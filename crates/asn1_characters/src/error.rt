@@ -1,4 +1,4 @@
-//! Refusals of characters, and their texts.
+//! Errors of characters, and their texts.
 ghost use Rattle.std.specs.Prelude.{◌≡◌, Some};
 ghost use Rattle.asn1_characters.specs.Errors.{own_error};
 ghost use Rattle.asn1_characters.specs.Texts.{character_text, restricted_text, alphabet_error_text};
@@ -263,7 +263,7 @@ pub enum InvalidRestrictedString {
 }
 
 impl InvalidRestrictedString {
-    /// The error that a string of this name has for a character.
+    /// Returns the error of the string of this name for a character.
     pub fn of(name: CharacterSetName, character: u32) -> InvalidRestrictedString
         ensures { result ≡ own_error name character }
     {
@@ -318,11 +318,12 @@ impl Error for InvalidRestrictedString {}
 /// Why there is no string, no code or no character.
 #[derive(Clone, Copy, Debug, PartialEq, Eq, PartialOrd, Ord, Hash)]
 pub enum PermittedAlphabetError {
-    /// Characters of no octets were asked for, of the string of this name.
+    /// The requested width of a character was 0 octets. `name` is the string.
     Other { name: CharacterSetName },
-    /// So many octets or bits are no whole number of characters of this width.
+    /// The octets or bits, `length` in number, are not a whole number of characters of `width`
+    /// each.
     InvalidData { length: usize, width: usize },
-    /// No character has this place, or this key.
+    /// No character has this index, or this key.
     IndexNotFound { index: usize },
     /// The permitted set lacks this character.
     CharacterNotFound { character: u32 },

@@ -2,12 +2,12 @@
 use crate::character_set::CharacterSetName;
 
 /// A type of string whose characters are in one of the eight base sets. It is all that the
-/// alphabets of `asn1_alphabets` take of a string.
+/// alphabets of `asn1_alphabets` need of a string.
 pub trait HasCharacterSet {
     ghost use Rattle.asn1_characters.specs.declared.character_set.CharacterSetName.{CharacterSetName};
 
     ghost CHARACTER_SET_NAME: { CharacterSetName };
 
-    /// Which of the eight strings it is.
+    /// The name of the string.
     const CHARACTER_SET_NAME: CharacterSetName;
 }

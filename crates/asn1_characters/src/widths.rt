@@ -2,8 +2,10 @@
 ghost use Rattle.std.specs.Prelude.{◌≡◌, ◌≤◌, ◌^◌};
 ghost use Rattle.asn1_characters.specs.Widths.{IsLeastWidth, ceil_log2, align, width_for};
 
-/// The least number of bits in which `count` things have codes of their own: 0 for one thing and
-/// for none.
+/// Returns the least number of bits in which `count` things have distinct codes. It is 0 for one
+/// thing or none.
+///
+/// The count must be at most 2^32.
 pub fn ceil_log2(count: u64) -> u32
     requires { count ≤ 2 ^ 32 }
     ensures value { result ≡ ceil_log2 count }
@@ -16,7 +18,9 @@ pub fn ceil_log2(count: u64) -> u32
     64 - (count - 1).leading_zeros()
 }
 
-/// How many codes a width has: two to its power.
+/// Returns the number of codes of a width in bits: 2 to the power of the width.
+///
+/// The width must be at most 32.
 pub fn codes_of(width: u32) -> u64
     requires { width ≤ 32 }
     ensures { result ≡ 2 ^ width }
@@ -24,8 +28,10 @@ pub fn codes_of(width: u32) -> u64
     1 << width
 }
 
-/// The width itself, and in the aligned variant the least power of two that is not below it, which
+/// Returns the width, or in the aligned variant the least power of two that is not below it, which
 /// is 1 for 0.
+///
+/// The width must be at most 32.
 pub fn align(aligned: bool, width: u32) -> u32
     requires { width ≤ 32 }
     ensures value { result ≡ align aligned width }
@@ -39,7 +45,10 @@ pub fn align(aligned: bool, width: u32) -> u32
     }
 }
 
-/// The width of the characters of a set of `count`: 0 for a set of one character and of none.
+/// Returns the width in bits of the characters of a set of `count` characters. It is 0 for one
+/// character or none.
+///
+/// The count must be at most 2^32.
 pub fn width_for(aligned: bool, count: u64) -> u32
     requires { count ≤ 2 ^ 32 }
     ensures value { result ≡ width_for aligned count }

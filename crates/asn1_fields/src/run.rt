@@ -11,7 +11,13 @@ use std::alloc::Global;
 use std::io::{Read, Write};
 
 /// Reads the input to its end, writes the whole answer at once, and returns the status: 0 for
-/// fields, 1 for an error.
+/// fields, 1 for an invalid input.
+///
+/// # Errors
+///
+/// Returns `Read` or `Memory` if the input cannot be read or answered; the output is then
+/// unchanged. Returns `Write` if the output cannot be written; a front of the answer may then have
+/// been written.
 pub fn run<R: Read, W: Write>(
     alloc: Global,
     input: &mut R,

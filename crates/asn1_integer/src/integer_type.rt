@@ -1,4 +1,4 @@
-//! What every integer type answers, in the words of whole numbers and their octets (X.690 8.3).
+//! The calls of every integer type, in the words of whole numbers and their octets (X.690 8.3).
 ghost use Rattle.std.specs.Prelude.{◌≡◌, ℕ, ◌+◌, ◌/◌, ◌↔◌, ℤ, pos, ◌+ℤ◌, ◌-ℤ◌, ◌<ℤ◌, List, Ok};
 ghost use Rattle.std.specs.Prelude.{IsTrue, IfOk, OnErr, SomeIff, MatchOption};
 ghost use Rattle.asn1_number.specs.Octets.{IsShortest};
@@ -12,14 +12,13 @@ use std::alloc::{AllocError, Global};
 
 /// A type of whole numbers: a native integer type, or `Integer`.
 ///
-/// Octets are most significant first. The readings return an error for an empty list, too many
-/// octets for the type and a sign that it does not hold, in the order of the table `signed_reading`
-/// and `unsigned_reading`; `Integer` alone allocates, outside `i128`.
+/// Octets are most significant first. `Integer` alone allocates when it reads octets, and only for
+/// a number outside `i128`.
 pub trait IntegerType {
-    /// The type's bits; `u32::MAX` for `Integer`.
+    /// The width of the type in bits; `u32::MAX` for `Integer`.
     const WIDTH: u32;
 
-    /// The type's octets, `WIDTH / 8`.
+    /// The width of the type in octets, `WIDTH / 8`.
     const BYTE_WIDTH: usize;
 
     /// The unsigned type of the same width.
@@ -41,92 +40,123 @@ pub trait IntegerType {
     /// The number of a pair.
     ghost pair_value: { Self.UnsignedPair → ℤ };
 
-    /// The number 0.
+    /// Returns the number 0.
     fn zero() -> Self
     where
         Self: Sized,
         ensures { value result ≡ pos 0 };
 
-    /// Returns the number that the octets encode: two's complement, or without a sign for an
-    /// unsigned type.
+    /// Returns the number that the octets encode: without a sign for an unsigned type, otherwise in
+    /// two's complement.
+    ///
+    /// # Errors
+    ///
+    /// Returns the errors of `try_from_unsigned_bytes` for an unsigned type, otherwise those of
+    /// `try_from_signed_bytes`.
     fn try_from_bytes(alloc: Global, octets: &[u8]) -> Result<Self, IntegerError>
     where
         Self: Sized,
         ensures { Answers kind value result (own_reading kind octets.now) };
 
-    /// Returns the number that two's complement octets encode (X.690 8.3.3).
+    /// Returns the number that the octets encode in two's complement (X.690 8.3.3).
+    ///
+    /// # Errors
+    ///
+    /// Returns, in this order:
+    ///
+    /// - `UnexpectedEmptyInput` if there are no octets;
+    /// - `TypeConversionFailed` if the value is negative and the type is unsigned;
+    /// - `Overflow` if there are more than `BYTE_WIDTH` octets; an unsigned type does not count one
+    ///   leading zero octet, and an `Integer` has no such limit;
+    /// - `Memory` if out of memory for an `Integer` outside `i128`.
     fn try_from_signed_bytes(alloc: Global, octets: &[u8]) -> Result<Self, IntegerError>
     where
         Self: Sized,
         ensures { Answers kind value result (signed_reading kind octets.now) };
 
-    /// Returns the number that octets without a sign encode.
+    /// Returns the number that the octets encode without a sign.
+    ///
+    /// # Errors
+    ///
+    /// Returns, in this order:
+    ///
+    /// - `UnexpectedEmptyInput` if there are no octets;
+    /// - `Overflow` if there are more than `BYTE_WIDTH` octets; an `Integer` has no such limit;
+    /// - `TypeConversionFailed` if the value exceeds the largest number of a signed native type;
+    /// - `Memory` if out of memory for an `Integer` outside `i128`.
     fn try_from_unsigned_bytes(alloc: Global, octets: &[u8]) -> Result<Self, IntegerError>
     where
         Self: Sized,
         ensures { Answers kind value result (unsigned_reading kind octets.now) };
 
-    /// The shortest two's complement octets, the contents of an INTEGER (X.690 8.3).
+    /// Returns the shortest two's complement octets, the contents of an INTEGER (X.690 8.3).
     fn to_signed_bytes_be(&self) -> IntegerBytes<'_>
         ensures shortest { IsShortest (value self.now) result }
         ensures in_range { IsInRange kind (value self.now) };
 
-    /// The shortest octets without a sign of the number modulo 2 to the power `WIDTH`. An `Integer`
-    /// has those of the number itself, which must not be negative.
+    /// Returns the shortest octets without a sign of the number modulo 2 to the power of `WIDTH`,
+    /// or of the number itself for an `Integer`.
+    ///
+    /// The number must not be negative if it is an `Integer`.
     fn to_unsigned_bytes_be(&self) -> IntegerBytes<'_>
         requires { IsNonNegativeUnlessNative kind (value self.now) }
         ensures { SpellsUnsigned kind (value self.now) result };
 
-    /// The sum, wrapped at the type's width. `Integer` does not wrap: it has the sum, where that
-    /// and the operands lie within `i128`.
+    /// Returns the sum, wrapped at the type's width. An `Integer` does not wrap: it returns the sum
+    /// if that and both operands lie within `i128`, otherwise `None`.
     fn wrapping_unsigned_add(self, other: Self::UnsignedPair) -> Option<Self>
     where
         Self: Sized,
         ensures { WrapsSum kind value (value self) (pair_value other) result };
 
-    /// Whether the number is below 0.
+    /// Returns whether the number is below 0.
     fn is_negative(&self) -> bool
         ensures { IsTrue result ↔ (value self.now <ℤ pos 0) };
 
-    /// Whether the type has numbers below 0.
+    /// Returns whether the type has numbers below 0.
     fn is_signed(&self) -> bool
         ensures { IsTrue result ↔ IsSignedKind kind };
 
-    /// The same number. Memory is asked for by a `u128` above `i128::MAX` alone.
+    /// Returns the number as an `Integer`.
+    ///
+    /// # Errors
+    ///
+    /// Returns `AllocError` if out of memory, which only a `u128` above `i128::MAX` needs.
     fn to_integer(self, alloc: Global) -> Result<Integer, AllocError>
     where
         Self: Sized,
         ensures value { IfOk result (λ n. n ≡ value self) }
         ensures memory { OnErr result (WantsMemory kind (value self)) };
 
-    /// The sum, exactly where the type holds it; of `Integer` where it and both operands lie within
-    /// `i128`.
+    /// Returns the sum if the type holds it, otherwise `None`. For an `Integer` it returns the sum
+    /// if that and both operands lie within `i128`, otherwise `None`.
     fn checked_add(&self, other: &Self) -> Option<Self>
     where
         Self: Sized,
         ensures { let sum = value self.now +ℤ value other.now in
             IsChecked kind value (value self.now) (value other.now) sum result };
 
-    /// The difference, exactly where the type holds it; of `Integer` where it and both operands lie
-    /// within `i128`.
+    /// Returns the difference if the type holds it, otherwise `None`. For an `Integer` it returns
+    /// the difference if that and both operands lie within `i128`, otherwise `None`.
     fn checked_sub(&self, other: &Self) -> Option<Self>
     where
         Self: Sized,
         ensures { let difference = value self.now -ℤ value other.now in
             IsChecked kind value (value self.now) (value other.now) difference result };
 
-    /// The same number, exactly where it lies within `i128`.
+    /// Returns the number if it lies within `i128`, otherwise `None`.
     fn to_i128(&self) -> Option<i128>
         ensures { SomeIff result (FitsI128 (value self.now)) (value self.now) };
 
-    /// The same number, exactly where the type holds it.
+    /// Returns the number if the type holds it, otherwise `None`.
     fn try_from_i128(number: i128) -> Option<Self>
     where
         Self: Sized,
         ensures { MatchOption result (¬ (IsInRange kind number))
             (λ x. (value x ≡ number) × IsInRange kind number) };
 
-    /// The same number, exactly where a native type holds it; `Integer` gives it within `i128`.
+    /// Returns the number if the native type holds it, otherwise `None`. As an `Integer` it is
+    /// returned if it lies within `i128`.
     fn from_integer(number: &Integer) -> Option<Self>
     where
         Self: Sized,

@@ -2,8 +2,8 @@
 ghost use Rattle.asn1_number.specs.Readings.{SignedOf, UnsignedOf};
 ghost use Rattle.asn1_integer.specs.Wrapping.{WrapsToOne, HasOneResidue};
 
-/// What holds of wrapping at every native type: the wrapped number and the residue are determined.
-/// It does nothing when it runs: its contract is the laws.
+/// Proves the laws of wrapping at every native type: the wrapped number and the residue are
+/// determined. Its contract is the laws; it does nothing when it runs.
 pub fn laws_of_wrapping()
     ensures signed { WrapsToOne SignedOf }
     ensures unsigned { WrapsToOne UnsignedOf }

@@ -1,8 +1,8 @@
 //! The integer types: one contract for the twelve native types and for `Integer`.
 //!
 //! [`IntegerType`] speaks of a type's numbers as whole numbers. Its readings are the table of
-//! `asn1_number`, its octets the shortest of the number (X.690 8.3), and what is written is read
-//! back: a law of the trait, which each type proves.
+//! `asn1_number`, and its octets the shortest of the number (X.690 8.3). A law of the trait, which
+//! each type proves, says that what is written is read back.
 #![tactic(auto)]
 
 mod integer;

@@ -10,12 +10,13 @@ use asn1_number::Integer;
 use std::alloc::{AllocError, Global};
 
 /// Returns the two's complement value of the octets that the reader has left (X.690 8.3.3), at any
-/// bit of its storage. There must be at least one octet. The reader stays where it is. Up to
-/// sixteen octets are read as a word, and allocate nothing.
+/// bit of its storage. The reader is unchanged. Up to sixteen octets are read as a word.
+///
+/// The reader must have a multiple of 8 bits left, and at least one octet.
 ///
 /// # Errors
 ///
-/// Returns `AllocError` if memory fails, which only more than sixteen octets need.
+/// Returns `AllocError` if out of memory, which only more than sixteen octets need.
 #[inline(always)]
 pub fn read_signed(alloc: Global, reader: &BitReader<'_>) -> Result<Integer, AllocError>
     requires some { 0 < (view_left reader.now).len }

@@ -7,7 +7,7 @@ use crate::try_from_integer::TryFromIntegerError;
 use std::alloc::AllocError;
 use std::ops::Deref;
 
-/// A whole number that was accepted because it lies from `START` to `END`, both included.
+/// A whole number from `START` to `END`, both included.
 #[derive(Debug, Drop, PartialEq, Eq, PartialOrd, Ord, Hash)]
 pub struct ConstrainedInteger<const START: i64, const END: i64> {
     kept: KeptInline,
@@ -48,7 +48,11 @@ impl KeptInline {
 impl<const START: i64, const END: i64> ConstrainedInteger<START, END> {
     ghost use Rattle.asn1_number.specs.Constrained.{constrained_number};
 
-    /// The same number. No memory is asked for.
+    /// Copies the number.
+    ///
+    /// # Errors
+    ///
+    /// Never returns an error: it allocates nothing.
     pub fn clone(&self) -> Result<ConstrainedInteger<START, END>, AllocError>
         ensures value { IfOk result (λ c. constrained_number c ≡ constrained_number self.now) }
         ensures free { IsOk result }
@@ -86,6 +90,11 @@ impl<const START: i64, const END: i64> TryFrom<i128> for ConstrainedInteger<STAR
 
     ghost try_from_gives = { λ n r. AcceptsFrom START END n r };
 
+    /// Returns the number if it lies from `START` to `END`.
+    ///
+    /// # Errors
+    ///
+    /// Returns `TryFromIntegerError` with the number if it lies below `START` or above `END`.
     fn try_from(number: i128) -> Result<ConstrainedInteger<START, END>, TryFromIntegerError> {
         if i128::from(START) <= number && number <= i128::from(END) {
             Ok(ConstrainedInteger {
@@ -104,6 +113,11 @@ impl<const START: i64, const END: i64> TryFrom<i64> for ConstrainedInteger<START
 
     ghost try_from_gives = { λ n r. AcceptsFrom START END n r };
 
+    /// Returns the number if it lies from `START` to `END`.
+    ///
+    /// # Errors
+    ///
+    /// Returns `TryFromIntegerError` with the number if it lies below `START` or above `END`.
     fn try_from(number: i64) -> Result<ConstrainedInteger<START, END>, TryFromIntegerError> {
         ConstrainedInteger::try_from(i128::from(number))
     }
@@ -116,6 +130,11 @@ impl<const START: i64, const END: i64> TryFrom<i32> for ConstrainedInteger<START
 
     ghost try_from_gives = { λ n r. AcceptsFrom START END n r };
 
+    /// Returns the number if it lies from `START` to `END`.
+    ///
+    /// # Errors
+    ///
+    /// Returns `TryFromIntegerError` with the number if it lies below `START` or above `END`.
     fn try_from(number: i32) -> Result<ConstrainedInteger<START, END>, TryFromIntegerError> {
         ConstrainedInteger::try_from(i128::from(number))
     }
@@ -128,6 +147,11 @@ impl<const START: i64, const END: i64> TryFrom<isize> for ConstrainedInteger<STA
 
     ghost try_from_gives = { λ n r. AcceptsFrom START END n r };
 
+    /// Returns the number if it lies from `START` to `END`.
+    ///
+    /// # Errors
+    ///
+    /// Returns `TryFromIntegerError` with the number if it lies below `START` or above `END`.
     fn try_from(number: isize) -> Result<ConstrainedInteger<START, END>, TryFromIntegerError> {
         ConstrainedInteger::try_from(number as i128)
     }

@@ -1,9 +1,9 @@
-//! Why octets are no integer.
+//! Errors of reading octets as an integer.
 use std::alloc::AllocError;
 use thiserror::Error;
 
-/// Why octets were not read as an integer. Both numbers are the bits of the type that was asked
-/// for.
+/// Why octets were not read as an integer. Both numbers are the width of the requested type in
+/// bits.
 #[derive(Clone, Copy, Debug, Drop, Error, PartialEq, Eq, PartialOrd, Ord, Hash)]
 pub enum IntegerError {
     /// There are no octets; X.690 8.3.1 requires at least one.
@@ -14,10 +14,10 @@ pub enum IntegerError {
     #[error("more than {max_integer_bits} bits")]
     Overflow { max_integer_bits: u32 },
     /// The value is negative, and the type has no sign; or the octets were read without a sign, and
-    /// their value lies above the largest number of the signed type.
+    /// their value exceeds the largest number of the signed type.
     #[error("no value of {bits} bits")]
     TypeConversionFailed { bits: u32 },
-    /// There is no memory for a number outside `i128`.
+    /// Out of memory for a number outside `i128`.
     #[error("out of memory")]
     Memory,
 }

@@ -1,4 +1,4 @@
-//! Whole numbers made of native ones. None of these takes memory.
+//! Whole numbers made of native ones. None of these allocates.
 ghost use Rattle.std.specs.Prelude.{◌≡◌, pos};
 
 use crate::integer::Integer;

@@ -24,7 +24,7 @@ use std::cmp::Ordering;
 use std::hash::{Hash, Hasher};
 use std::marker::Model;
 
-/// A whole number of any size. Numbers within `i128` take no memory.
+/// A whole number of any size. Numbers within `i128` allocate nothing.
 #[derive(Debug, Drop)]
 pub struct Integer {
     form: Form,
@@ -52,14 +52,14 @@ impl Model for Integer {
 }
 
 impl Integer {
-    /// The number 0.
+    /// Returns the number 0.
     pub fn zero() -> Integer
         ensures { result ≡ pos 0 }
     {
         Integer::inline(0)
     }
 
-    /// The number 1.
+    /// Returns the number 1.
     pub fn one() -> Integer
         ensures { result ≡ pos 1 }
     {
@@ -107,7 +107,7 @@ impl Integer {
         Integer::spelled(leading_octets_among(octets), high, low)
     }
 
-    /// The same number. Memory is asked for only where it lies outside `i128`.
+    /// Copies the number. Returns an error if out of memory, never for a number within `i128`.
     pub fn clone(&self) -> Result<Integer, AllocError>
         ensures value { IfOk result (λ n. n ≡ self.now) }
         ensures memory { OnErr result (¬ (FitsI128 self.now)) }
@@ -130,7 +130,7 @@ impl Integer {
         }
     }
 
-    /// The same number. Memory is asked for only where it lies above `i128::MAX`.
+    /// Returns the number as an `Integer`, or an error if out of memory, never up to `i128::MAX`.
     pub fn from_u128(alloc: Global, number: u128) -> Result<Integer, AllocError>
         ensures value { IfOk result (λ n. n ≡ pos number) }
         ensures memory { OnErr result (2 ^ 127 ≤ number) }
@@ -144,8 +144,12 @@ impl Integer {
         Ok(integer)
     }
 
-    /// The two's complement value of the octets, at any length (X.690 8.3.3). Memory is asked for
-    /// only where it lies outside `i128`, and then for its shortest octets alone.
+    /// Returns the two's complement value of the octets, at any length (X.690 8.3.3).
+    ///
+    /// # Errors
+    ///
+    /// Returns `UnexpectedEmptyInput` if there are no octets, and `Memory` if out of memory for a
+    /// value outside `i128`.
     #[inline(always)]
     pub fn from_signed_octets(alloc: Global, octets: &[u8]) -> Result<Integer, IntegerError>
         ensures empty { octets.now ≡ [] → IsErrOf result IntegerError.UnexpectedEmptyInput }
@@ -197,8 +201,12 @@ impl Integer {
         })
     }
 
-    /// The value of the octets without a sign, at any length. Memory is asked for only where it
-    /// lies outside `i128`.
+    /// Returns the value of the octets without a sign, at any length.
+    ///
+    /// # Errors
+    ///
+    /// Returns `UnexpectedEmptyInput` if there are no octets, and `Memory` if out of memory for a
+    /// value outside `i128`.
     pub fn from_unsigned_octets(alloc: Global, octets: &[u8]) -> Result<Integer, IntegerError>
         ensures empty { octets.now ≡ [] → IsErrOf result IntegerError.UnexpectedEmptyInput }
         ensures value { IfOk result (λ n. n ≡ pos (unsigned octets.now)) }
@@ -226,7 +234,7 @@ impl Integer {
         })
     }
 
-    /// The shortest two's complement octets of the number, its contents in DER (X.690 8.3).
+    /// Returns the shortest two's complement octets, the contents of an INTEGER (X.690 8.3).
     pub fn signed_octets(&self) -> IntegerBytes<'_>
         ensures { IsShortest self.now result }
     {
@@ -238,7 +246,7 @@ impl Integer {
         }
     }
 
-    /// How many octets `signed_octets` has.
+    /// Returns the number of octets of `signed_octets`.
     pub fn signed_len(&self) -> usize
         ensures { (o : List ℕ) → IsShortest self.now o → result ≡ length o }
     {
@@ -248,7 +256,7 @@ impl Integer {
         }
     }
 
-    /// The shortest octets without a sign of a number that is not negative.
+    /// Returns the shortest octets without a sign. The number must not be negative.
     pub fn unsigned_octets(&self) -> IntegerBytes<'_>
         requires { IsNonNegative self.now }
         ensures { (n : ℕ) → self.now ≡ pos n → IsShortestUnsigned n result }
@@ -283,7 +291,7 @@ impl Integer {
         compare_octets(octets.as_ref(), others.as_ref())
     }
 
-    /// The number, exactly where it lies within `i128`.
+    /// Returns the number if it lies within `i128`, otherwise `None`.
     pub fn to_i128(&self) -> Option<i128>
         ensures { SomeIff result (FitsI128 self.now) self.now }
     {
@@ -293,14 +301,14 @@ impl Integer {
         }
     }
 
-    /// The number, exactly where it lies within `i64`.
+    /// Returns the number if it lies within `i64`, otherwise `None`.
     pub fn to_i64(&self) -> Option<i64>
         ensures { SomeIff result (IsInRange kind_i64 self.now) self.now }
     {
         self.to_i128().and_then(|number| i64::try_from(number).ok())
     }
 
-    /// The number, exactly where it lies within `u64`.
+    /// Returns the number if it lies within `u64`, otherwise `None`.
     pub fn to_u64(&self) -> Option<u64>
         ensures { MatchOption result (¬ (IsInRange kind_u64 self.now))
             (λ n. (pos n ≡ self.now) × IsInRange kind_u64 self.now) }
@@ -308,7 +316,7 @@ impl Integer {
         self.to_i128().and_then(|number| u64::try_from(number).ok())
     }
 
-    /// The number, exactly where it lies within `u128`.
+    /// Returns the number if it lies within `u128`, otherwise `None`.
     pub fn to_u128(&self) -> Option<u128>
         ensures { MatchOption result (¬ (IsInRange kind_u128 self.now))
             (λ n. (pos n ≡ self.now) × IsInRange kind_u128 self.now) }

@@ -47,7 +47,9 @@ impl<'a> Model for IntegerBytes<'a> {
 }
 
 impl<'a> IntegerBytes<'a> {
-    /// An inline copy of at most seventeen octets.
+    /// Copies the octets inline.
+    ///
+    /// The number of octets must be at most 17.
     pub fn from_octets(octets: &[u8]) -> IntegerBytes<'a>
         requires { length octets.now ≤ 17 }
         ensures { result ≡ octets.now }
@@ -86,7 +88,7 @@ impl<'a> IntegerBytes<'a> {
         }
     }
 
-    /// The octets as a slice.
+    /// Returns the octets as a slice.
     pub fn as_ref(&self) -> &[u8]
         ensures { result.now ≡ self.now }
     {
@@ -101,22 +103,22 @@ impl<'a> IntegerBytes<'a> {
         }
     }
 
-    /// How many octets there are.
+    /// Returns the number of octets.
     pub fn len(&self) -> usize
         ensures { result ≡ length self.now }
     {
         self.as_ref().len()
     }
 
-    /// Whether there are no octets. The octets of a number are never none.
+    /// Returns whether there are no octets. A number has at least one.
     pub fn is_empty(&self) -> bool
         ensures { IsTrue result ↔ (self.now ≡ []) }
     {
         self.as_ref().is_empty()
     }
 
-    /// The shortest octets without a sign, where these are the shortest two's complement octets of
-    /// a number that is not negative.
+    /// Returns the shortest octets without a sign, if these are the shortest two's complement
+    /// octets of a number that is not negative.
     pub fn without_sign(self) -> IntegerBytes<'a>
         ensures { (n : ℕ) → IsShortest (pos n) self.entry → IsShortestUnsigned n result }
     {
@@ -171,7 +173,11 @@ impl Clone for IntegerBytes<'_> {
 
     ghost is_infallible = { λ _. ⊤ };
 
-    /// The same octets. It allocates nothing.
+    /// Returns the same octets.
+    ///
+    /// # Errors
+    ///
+    /// Never returns an error: it allocates nothing.
     fn clone(&self) -> Result<Self, AllocError> {
         Ok(IntegerBytes {
             storage: self.storage,

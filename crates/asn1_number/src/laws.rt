@@ -2,8 +2,8 @@
 ghost use Rattle.asn1_number.specs.Laws.{EachNumberHasOneShortestList, ComputedAreShortest};
 ghost use Rattle.asn1_number.specs.Laws.{ShortestByNineBits, ShortestKeepOrder, ShortestAreReadBack};
 
-/// What holds of shortest octets at every length (X.690 8.3.2), for callers that look at octets
-/// themselves. It does nothing when it runs: its contract is the laws.
+/// Proves the laws of shortest octets at every length (X.690 8.3.2), for callers that look at
+/// octets themselves. Its contract is the laws; it does nothing when it runs.
 pub fn laws_of_shortest_octets()
     ensures one_list { EachNumberHasOneShortestList }
     ensures computed { ComputedAreShortest }

@@ -18,8 +18,8 @@ pub(crate) fn is_shortest_at_once(octets: &[u8]) -> bool
     octets.len() == 1 || octets[0].wrapping_add(1) > 1
 }
 
-/// The end of the list that is the shortest spelling of the same two's complement value
-/// (X.690 8.3.2); empty for an empty list.
+/// Returns the end of the octets that is the shortest encoding of the same two's complement value
+/// (X.690 8.3.2). It is empty for no octets.
 pub fn without_redundant_sign_octets(octets: &[u8]) -> &[u8]
     ensures end { (k : ℕ) × (k ≤ length octets.now) × (result.now ≡ drop k octets.now) }
     ensures shortest { 0 < length octets.now → IsShortest (signed octets.now) result.now }

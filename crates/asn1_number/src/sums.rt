@@ -5,7 +5,7 @@ ghost use Rattle.asn1_number.specs.Sums.{IsNumberOfTwo};
 use crate::integer::Integer;
 
 impl Integer {
-    /// Whether the number is below 0.
+    /// Returns whether the number is below 0.
     pub fn is_negative(&self) -> bool
         ensures { IsTrue result ↔ (self.now <ℤ pos 0) }
     {
@@ -15,7 +15,7 @@ impl Integer {
         }
     }
 
-    /// Returns the sum if it and both numbers lie within `i128`, otherwise None.
+    /// Returns the sum if it and both numbers lie within `i128`, otherwise `None`.
     pub fn checked_add(&self, other: &Integer) -> Option<Integer>
         ensures { IsNumberOfTwo self.now other.now (self.now +ℤ other.now) result }
     {
@@ -23,7 +23,7 @@ impl Integer {
         Some(Integer::from(sum))
     }
 
-    /// Returns the difference if it and both numbers lie within `i128`, otherwise None.
+    /// Returns the difference if it and both numbers lie within `i128`, otherwise `None`.
     pub fn checked_sub(&self, other: &Integer) -> Option<Integer>
         ensures { IsNumberOfTwo self.now other.now (self.now -ℤ other.now) result }
     {
@@ -31,7 +31,7 @@ impl Integer {
         Some(Integer::from(difference))
     }
 
-    /// Returns the product if it and both numbers lie within `i128`, otherwise None.
+    /// Returns the product if it and both numbers lie within `i128`, otherwise `None`.
     pub fn checked_mul(&self, other: &Integer) -> Option<Integer>
         ensures { IsNumberOfTwo self.now other.now (self.now *ℤ other.now) result }
     {

@@ -1,4 +1,4 @@
-//! Native numbers made of whole ones, where they hold them.
+//! Native numbers made of whole ones, if they hold them.
 ghost use Rattle.std.specs.Prelude.{◌≡◌, pos, Some, Ok, Err, codes, IfOk, OnErr, MatchOption};
 ghost use Rattle.asn1_number.specs.Conversions.{Converts};
 ghost use Rattle.asn1_number.specs.Readings.{FitsI128};
@@ -12,7 +12,7 @@ use std::error::Error;
 use std::fmt;
 use std::marker::Model;
 
-/// A number that the wanted type does not hold. It is seen as that number.
+/// A number that the requested type does not hold. It is seen as that number.
 #[derive(Debug, Drop, PartialEq, Eq)]
 pub struct TryFromIntegerError {
     original: Integer,
@@ -35,7 +35,7 @@ impl TryFromIntegerError {
         TryFromIntegerError { original }
     }
 
-    /// Returns the number that did not fit, borrowed.
+    /// Borrows the number that the type does not hold.
     pub fn original(&self) -> &Integer
         ensures { result.now ≡ self.now }
     {
@@ -50,7 +50,11 @@ impl TryFromIntegerError {
         original
     }
 
-    /// Returns a copy. It allocates only if the number is outside `i128`.
+    /// Copies the error.
+    ///
+    /// # Errors
+    ///
+    /// Returns `AllocError` if out of memory, which only a number outside `i128` needs.
     pub fn clone(&self) -> Result<TryFromIntegerError, AllocError>
         ensures value { IfOk result (λ e. e ≡ self.now) }
         ensures memory { OnErr result (¬ (FitsI128 self.now)) }
@@ -90,6 +94,11 @@ impl TryFrom<Integer> for u8 {
 
     ghost try_from_gives = { λ n r. Converts kind_u8 (λ x. pos x) n r };
 
+    /// Returns the number as `u8`.
+    ///
+    /// # Errors
+    ///
+    /// Returns `TryFromIntegerError` with the number if `u8` does not hold it.
     fn try_from(number: Integer) -> Result<u8, TryFromIntegerError> {
         kept_or_back(number.to_i128().and_then(|n| u8::try_from(n).ok()), number)
     }
@@ -100,6 +109,11 @@ impl TryFrom<Integer> for i8 {
 
     ghost try_from_gives = { λ n r. Converts kind_i8 (λ x. x) n r };
 
+    /// Returns the number as `i8`.
+    ///
+    /// # Errors
+    ///
+    /// Returns `TryFromIntegerError` with the number if `i8` does not hold it.
     fn try_from(number: Integer) -> Result<i8, TryFromIntegerError> {
         kept_or_back(number.to_i128().and_then(|n| i8::try_from(n).ok()), number)
     }
@@ -110,6 +124,11 @@ impl TryFrom<Integer> for u16 {
 
     ghost try_from_gives = { λ n r. Converts kind_u16 (λ x. pos x) n r };
 
+    /// Returns the number as `u16`.
+    ///
+    /// # Errors
+    ///
+    /// Returns `TryFromIntegerError` with the number if `u16` does not hold it.
     fn try_from(number: Integer) -> Result<u16, TryFromIntegerError> {
         kept_or_back(number.to_i128().and_then(|n| u16::try_from(n).ok()), number)
     }
@@ -120,6 +139,11 @@ impl TryFrom<Integer> for i16 {
 
     ghost try_from_gives = { λ n r. Converts kind_i16 (λ x. x) n r };
 
+    /// Returns the number as `i16`.
+    ///
+    /// # Errors
+    ///
+    /// Returns `TryFromIntegerError` with the number if `i16` does not hold it.
     fn try_from(number: Integer) -> Result<i16, TryFromIntegerError> {
         kept_or_back(number.to_i128().and_then(|n| i16::try_from(n).ok()), number)
     }
@@ -130,6 +154,11 @@ impl TryFrom<Integer> for u32 {
 
     ghost try_from_gives = { λ n r. Converts kind_u32 (λ x. pos x) n r };
 
+    /// Returns the number as `u32`.
+    ///
+    /// # Errors
+    ///
+    /// Returns `TryFromIntegerError` with the number if `u32` does not hold it.
     fn try_from(number: Integer) -> Result<u32, TryFromIntegerError> {
         kept_or_back(number.to_i128().and_then(|n| u32::try_from(n).ok()), number)
     }
@@ -140,6 +169,11 @@ impl TryFrom<Integer> for i32 {
 
     ghost try_from_gives = { λ n r. Converts kind_i32 (λ x. x) n r };
 
+    /// Returns the number as `i32`.
+    ///
+    /// # Errors
+    ///
+    /// Returns `TryFromIntegerError` with the number if `i32` does not hold it.
     fn try_from(number: Integer) -> Result<i32, TryFromIntegerError> {
         kept_or_back(number.to_i128().and_then(|n| i32::try_from(n).ok()), number)
     }
@@ -150,6 +184,11 @@ impl TryFrom<Integer> for u64 {
 
     ghost try_from_gives = { λ n r. Converts kind_u64 (λ x. pos x) n r };
 
+    /// Returns the number as `u64`.
+    ///
+    /// # Errors
+    ///
+    /// Returns `TryFromIntegerError` with the number if `u64` does not hold it.
     fn try_from(number: Integer) -> Result<u64, TryFromIntegerError> {
         kept_or_back(number.to_i128().and_then(|n| u64::try_from(n).ok()), number)
     }
@@ -160,6 +199,11 @@ impl TryFrom<Integer> for i64 {
 
     ghost try_from_gives = { λ n r. Converts kind_i64 (λ x. x) n r };
 
+    /// Returns the number as `i64`.
+    ///
+    /// # Errors
+    ///
+    /// Returns `TryFromIntegerError` with the number if `i64` does not hold it.
     fn try_from(number: Integer) -> Result<i64, TryFromIntegerError> {
         kept_or_back(number.to_i128().and_then(|n| i64::try_from(n).ok()), number)
     }
@@ -170,6 +214,11 @@ impl TryFrom<Integer> for u128 {
 
     ghost try_from_gives = { λ n r. Converts kind_u128 (λ x. pos x) n r };
 
+    /// Returns the number as `u128`.
+    ///
+    /// # Errors
+    ///
+    /// Returns `TryFromIntegerError` with the number if `u128` does not hold it.
     fn try_from(number: Integer) -> Result<u128, TryFromIntegerError> {
         kept_or_back(number.to_u128(), number)
     }
@@ -180,6 +229,11 @@ impl TryFrom<Integer> for i128 {
 
     ghost try_from_gives = { λ n r. Converts kind_i128 (λ x. x) n r };
 
+    /// Returns the number as `i128`.
+    ///
+    /// # Errors
+    ///
+    /// Returns `TryFromIntegerError` with the number if `i128` does not hold it.
     fn try_from(number: Integer) -> Result<i128, TryFromIntegerError> {
         kept_or_back(number.to_i128(), number)
     }
@@ -190,6 +244,11 @@ impl TryFrom<Integer> for usize {
 
     ghost try_from_gives = { λ n r. Converts kind_usize (λ x. pos x) n r };
 
+    /// Returns the number as `usize`.
+    ///
+    /// # Errors
+    ///
+    /// Returns `TryFromIntegerError` with the number if `usize` does not hold it.
     fn try_from(number: Integer) -> Result<usize, TryFromIntegerError> {
         kept_or_back(
             number.to_i128().and_then(|n| usize::try_from(n).ok()),
@@ -203,6 +262,11 @@ impl TryFrom<Integer> for isize {
 
     ghost try_from_gives = { λ n r. Converts kind_isize (λ x. x) n r };
 
+    /// Returns the number as `isize`.
+    ///
+    /// # Errors
+    ///
+    /// Returns `TryFromIntegerError` with the number if `isize` does not hold it.
     fn try_from(number: Integer) -> Result<isize, TryFromIntegerError> {
         kept_or_back(
             number.to_i128().and_then(|n| isize::try_from(n).ok()),

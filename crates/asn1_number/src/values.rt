@@ -19,7 +19,9 @@ pub(crate) fn word_of_eight(octets: &[u8]) -> u64
     u64::from_be_bytes(*word)
 }
 
-/// The two's complement value of one to sixteen octets, most significant first (X.690 8.3.3).
+/// Returns the two's complement value of the octets, most significant first (X.690 8.3.3).
+///
+/// The number of octets must be 1 to 16.
 pub fn signed_value(octets: &[u8]) -> i128
     requires some { 0 < length octets.now }
     requires few { length octets.now ≤ 16 }
@@ -62,7 +64,9 @@ fn signed_by_octets(octets: &[u8]) -> i128
     value
 }
 
-/// The value of at most sixteen octets without a sign, most significant first; 0 for none.
+/// Returns the value of the octets without a sign, most significant first. It is 0 for no octets.
+///
+/// The number of octets must be at most 16.
 pub fn unsigned_value(octets: &[u8]) -> u128
     requires { length octets.now ≤ 16 }
     ensures { result ≡ unsigned octets.now }
@@ -194,7 +198,7 @@ pub(crate) fn shortest_in_words(number: i128) -> (usize, u64, u64)
     }
 }
 
-/// The shortest two's complement octets of the number.
+/// Returns the shortest two's complement octets of the number (X.690 8.3.2).
 pub fn shortest_of<'a>(number: i128) -> IntegerBytes<'a>
     ensures { IsShortest number result }
 {

@@ -12,12 +12,14 @@ pub trait OctetSource {
     /// The list.
     ghost list: { Self → List ℕ };
 
-    /// How many octets there are.
+    /// Returns the number of octets.
     fn count(&self) -> usize
         ensures count { result ≡ length (list self.now) }
         ensures octets { All (λ octet. octet < 256) (list self.now) };
 
-    /// The octet at a place.
+    /// Returns the octet at an index.
+    ///
+    /// The index must be below the number of octets.
     fn octet(&self, i: usize) -> u8
         requires { i < length (list self.now) }
         ensures { result ≡ slice_index (list self.now) i };
@@ -51,7 +53,7 @@ pub enum ContentsError {
     /// They are the contents of arcs, one of which exceeds `u32`.
     #[error("an arc of more than 32 bits")]
     ArcTooLarge,
-    /// They are the contents of an identifier, but there is no memory.
+    /// They are the contents of an identifier, but out of memory.
     #[error("out of memory")]
     Memory,
 }
@@ -73,7 +75,12 @@ const LARGEST_FIRST: u64 = 4_294_967_375;
 /// The largest number of another subidentifier.
 const LARGEST_OTHER: u64 = 4_294_967_295;
 
-/// Whether the octets are the contents of an identifier, whose arcs all fit `u32`.
+/// Checks that the octets are the contents of an identifier whose arcs all fit `u32` (X.690 8.19).
+///
+/// # Errors
+///
+/// Returns `Malformed` if the octets are the contents of no arcs, however large, otherwise
+/// `ArcTooLarge` if an arc exceeds `u32`. It never returns `Memory`.
 pub fn check_contents<S: OctetSource>(source: &S) -> Result<(), ContentsError>
     ensures ok { IsOk result
         ↔ ((arcs : List ℕ) × IsContents arcs (S.list source.now) × FitU32 arcs) }
@@ -81,7 +88,7 @@ pub fn check_contents<S: OctetSource>(source: &S) -> Result<(), ContentsError>
         ↔ ((arcs : List ℕ) × IsContents arcs (S.list source.now) × ¬ (FitU32 arcs)) }
     ensures malformed { (result ≡ Err ContentsError.Malformed)
         ↔ ((arcs : List ℕ) → ¬ (IsContents arcs (S.list source.now))) }
-    // No memory is asked for.
+    // It allocates nothing.
     ensures memory { result ≢ Err ContentsError.Memory }
 {
     examine(source)

@@ -34,7 +34,7 @@ impl<'a> IntoIterator for &Oid<'a> {
     ghost into_iter_gives = { λ oid r. (iter_rest r ≡ arcs_of oid.now)
         × (length (iter_rest r) < 2 ^ 64) × IterYieldsInOrder ℕ };
 
-    /// An iterator over the arcs.
+    /// Returns an iterator over the arcs.
     fn into_iter(self) -> Iter<'a, u32> {
         self.as_ref().iter()
     }
@@ -48,7 +48,7 @@ impl<'a> IntoIterator for &'a ObjectIdentifier {
     ghost into_iter_gives = { λ oid r. (iter_rest r ≡ oid.now)
         × (length (iter_rest r) < 2 ^ 64) × IterYieldsInOrder ℕ };
 
-    /// An iterator over the arcs.
+    /// Returns an iterator over the arcs.
     fn into_iter(self) -> Iter<'a, u32> {
         self.as_oid().as_ref().iter()
     }

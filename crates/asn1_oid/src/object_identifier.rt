@@ -22,7 +22,7 @@ use std::fmt;
 use std::hash::{Hash, Hasher};
 use std::marker::Model;
 
-/// An object identifier that owns its arcs, or borrows them for good.
+/// An object identifier that owns its arcs, or borrows them for `'static`.
 #[derive(Debug, Drop)]
 pub struct ObjectIdentifier {
     arcs: CowSlice<'static, u32>,
@@ -41,7 +41,7 @@ impl Model for ObjectIdentifier {
 }
 
 impl ObjectIdentifier {
-    /// An identifier of the arcs; None where they are not valid (X.660).
+    /// Returns the identifier of the arcs, or `None` if they are not valid (X.660).
     pub fn new(arcs: CowSlice<'static, u32>) -> Option<ObjectIdentifier>
         ensures { MatchOption result (¬ (IsValidArcs (cow_slice_items arcs.entry)))
             (λ oid. (oid ≡ cow_slice_items arcs.entry) × IsValidArcs oid) }
@@ -53,7 +53,7 @@ impl ObjectIdentifier {
         }
     }
 
-    /// An identifier of the arcs; None where they are not valid (X.660).
+    /// Returns the identifier of the arcs, or `None` if they are not valid (X.660).
     pub fn from_vec(arcs: Vec<u32>) -> Option<ObjectIdentifier>
         ensures { MatchOption result (¬ (IsValidArcs arcs.items))
             (λ oid. (oid ≡ arcs.items) × IsValidArcs oid) }
@@ -61,7 +61,9 @@ impl ObjectIdentifier {
         ObjectIdentifier::new(CowSlice::Owned(arcs))
     }
 
-    /// An identifier of arcs that the caller has shown to be valid.
+    /// Returns the identifier of the arcs without a check.
+    ///
+    /// The arcs must be valid (X.660).
     pub fn new_unchecked(arcs: CowSlice<'static, u32>) -> ObjectIdentifier
         requires { IsValidArcs (cow_slice_items arcs) }
         ensures { result ≡ cow_slice_items arcs.entry }
@@ -69,7 +71,11 @@ impl ObjectIdentifier {
         ObjectIdentifier { arcs }
     }
 
-    /// A copy that owns its arcs. Returns an error only if out of memory.
+    /// Copies an identifier, so that the copy owns its arcs.
+    ///
+    /// # Errors
+    ///
+    /// Returns `AllocError` if out of memory.
     pub fn from_oid(alloc: Global, oid: Oid<'_>) -> Result<ObjectIdentifier, AllocError>
         ensures { IfOk result (λ copy. copy ≡ arcs_of oid.entry) }
     {
@@ -79,9 +85,13 @@ impl ObjectIdentifier {
         })
     }
 
-    /// Reads an identifier from its contents octets (X.690 8.19). `Memory` is returned only for
-    /// octets that are otherwise valid. Room for one more arc than there are octets is requested
-    /// before they are read, and is kept.
+    /// Reads an identifier from its contents octets (X.690 8.19). Room for one more arc than there
+    /// are octets is allocated before they are read, and is kept.
+    ///
+    /// # Errors
+    ///
+    /// Returns `Malformed` if the octets are the contents of no arcs, however large, otherwise
+    /// `ArcTooLarge` if an arc exceeds `u32`, otherwise `Memory` if out of memory.
     pub fn from_contents<S: OctetSource>(
         alloc: Global,
         source: &S,
@@ -113,8 +123,8 @@ impl ObjectIdentifier {
     ///
     /// # Errors
     ///
-    /// Returns `Malformed` if the text is not that of an identifier whose arcs all fit `u32`;
-    /// otherwise `Memory` if memory fails.
+    /// Returns `Malformed` if the text is not that of an identifier whose arcs all fit `u32`,
+    /// otherwise `Memory` if out of memory.
     pub fn parse(alloc: Global, text: &str) -> Result<ObjectIdentifier, DottedTextError>
         ensures value { IfOk result (λ oid. IsDottedText oid text.now) }
         // It is the text of no other arcs.
@@ -138,14 +148,14 @@ impl ObjectIdentifier {
         }
     }
 
-    /// The identifier, borrowed.
+    /// Borrows the identifier.
     pub fn as_oid(&self) -> Oid<'_>
         ensures { arcs_of result ≡ self.now }
     {
         Oid::new_unchecked(self.arcs.as_slice())
     }
 
-    /// The arcs.
+    /// Borrows the arcs.
     pub fn as_ref(&self) -> &[u32]
         ensures arcs { result.now ≡ self.now }
         ensures valid { IsValidArcs result.now }
@@ -153,7 +163,7 @@ impl ObjectIdentifier {
         self.arcs.as_slice()
     }
 
-    /// The arcs, taken out.
+    /// Returns the arcs, without a copy.
     pub fn into_arcs(self) -> CowSlice<'static, u32>
         ensures arcs { cow_slice_items result ≡ self }
         ensures valid { IsValidArcs (cow_slice_items result) }
@@ -162,15 +172,18 @@ impl ObjectIdentifier {
         arcs
     }
 
-    /// Whether these are its arcs.
+    /// Returns whether these are its arcs.
     pub fn eq_arcs(&self, arcs: &[u32]) -> bool
         ensures { IsTrue result ↔ (self.now ≡ arcs.now) }
     {
         self.as_ref() == arcs
     }
 
-    /// The same identifier. Arcs that are borrowed for good stay borrowed; others are copied.
-    /// Returns an error only if out of memory.
+    /// Copies the identifier. Arcs borrowed for `'static` stay borrowed; others are copied.
+    ///
+    /// # Errors
+    ///
+    /// Returns `AllocError` if out of memory.
     pub fn clone(&self) -> Result<ObjectIdentifier, AllocError>
         ensures { IfOk result (λ copy. copy ≡ self.now) }
     {
@@ -179,7 +192,7 @@ impl ObjectIdentifier {
     }
 }
 
-/// The arcs in decimal, joined by full stops.
+/// Writes the arcs in decimal, joined by full stops.
 impl fmt::Display for ObjectIdentifier {
     ghost output = { λ oid. Some (dotted oid) };
 

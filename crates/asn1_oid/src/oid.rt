@@ -31,7 +31,7 @@ pub(crate) fn is_valid(arcs: &[u32]) -> bool
 impl<'a> Oid<'a> {
     ghost use Rattle.asn1_oid.specs.Oid.{arcs_of};
 
-    /// An identifier of the arcs; None where they are not valid (X.660).
+    /// Returns the identifier of the arcs, or `None` if they are not valid (X.660).
     pub fn new(arcs: &'a [u32]) -> Option<Oid<'a>>
         ensures { MatchOption result (¬ (IsValidArcs arcs.now))
             (λ oid. (arcs_of oid ≡ arcs.now) × IsValidArcs arcs.now) }
@@ -43,7 +43,9 @@ impl<'a> Oid<'a> {
         }
     }
 
-    /// An identifier of arcs that the caller knows to be valid.
+    /// Returns the identifier of the arcs without a check.
+    ///
+    /// The arcs must be valid (X.660).
     pub fn new_unchecked(arcs: &'a [u32]) -> Oid<'a>
         requires { IsValidArcs arcs.now }
         ensures { arcs_of result ≡ arcs.now }
@@ -51,7 +53,7 @@ impl<'a> Oid<'a> {
         Oid { arcs }
     }
 
-    /// The arcs.
+    /// Borrows the arcs.
     pub fn as_ref(&self) -> &'a [u32]
         ensures arcs { result.now ≡ arcs_of self.now }
         ensures valid { IsValidArcs result.now }
@@ -59,14 +61,18 @@ impl<'a> Oid<'a> {
         self.arcs
     }
 
-    /// A copy that owns its arcs. Returns an error only if out of memory.
+    /// Copies the identifier, so that the copy owns its arcs.
+    ///
+    /// # Errors
+    ///
+    /// Returns `AllocError` if out of memory.
     pub fn to_owned(&self, alloc: Global) -> Result<ObjectIdentifier, AllocError>
         ensures { IfOk result (λ copy. copy ≡ arcs_of self.now) }
     {
         ObjectIdentifier::from_oid(alloc, *self)
     }
 
-    /// The octets of its contents, one by one (X.690 8.19); None where it has one arc.
+    /// Returns the octets of its contents, one by one (X.690 8.19), or `None` if it has one arc.
     pub fn contents(&self) -> Option<OidContents<'a>>
         ensures { MatchOption result (length (arcs_of self.now) ≡ 1)
             (λ octets. IsContents (arcs_of self.now) octets) }
@@ -75,7 +81,7 @@ impl<'a> Oid<'a> {
         Some(OidContents::of(number, arcs))
     }
 
-    /// How many octets its contents have; None where it has one arc.
+    /// Returns the number of octets of its contents, or `None` if it has one arc.
     pub fn contents_len(&self) -> Option<u128>
         ensures len { MatchOption result (length (arcs_of self.now) ≡ 1)
             (λ len. (octets : List ℕ) × IsContents (arcs_of self.now) octets
@@ -99,7 +105,7 @@ impl<'a> Oid<'a> {
         }
     }
 
-    /// Whether these are its arcs.
+    /// Returns whether these are its arcs.
     pub fn eq_arcs(&self, arcs: &[u32]) -> bool
         ensures { IsTrue result ↔ (arcs_of self.now ≡ arcs.now) }
     {
@@ -107,7 +113,7 @@ impl<'a> Oid<'a> {
     }
 }
 
-/// The arcs in decimal, joined by full stops.
+/// Writes the arcs in decimal, joined by full stops.
 impl fmt::Display for Oid<'_> {
     ghost use Rattle.std.specs.Prelude.{Some};
     ghost use Rattle.asn1_oid.specs.Arcs.{dotted};

@@ -9,7 +9,8 @@ use crate::pushes::{push_arc, push_word};
 use std::alloc::AllocError;
 use std::marker::Model;
 
-/// An iterator over the octets of an identifier's contents that are left, from either end.
+/// An iterator over the octets of an identifier's contents (X.690 8.19) that are left, from either
+/// end.
 #[derive(Debug, Drop)]
 pub struct OidContents<'a> {
     // The octets of the current subidentifier that are left, the first in the lowest eight bits;
@@ -142,9 +143,13 @@ impl<'a> OidContents<'a> {
         self.left as usize + octets_of_arcs(self.arcs) + self.back_left as usize
     }
 
-    /// Appends the octets that are left to the vector, faster than pushing each. It reserves once,
-    /// five octets an arc, which may be more than they take. If memory fails, the vector's octets
-    /// stay.
+    /// Appends the octets that are left to the vector, faster than pushing each. It reserves room
+    /// once, five octets an arc, which may be more than they take.
+    ///
+    /// # Errors
+    ///
+    /// Returns `AllocError` if out of memory; the vector's octets are then unchanged. It never
+    /// fails if no octets are left, or if the vector has room for five times as many as are left.
     pub fn append_to(self, octets: &mut Vec<u8>) -> Result<(), AllocError>
         ensures ok { OnOk result (octets.new.items ≡ octets.old.items ++ self.entry) }
         ensures err { OnErr result (octets.new.items ≡ octets.old.items) }
@@ -178,7 +183,11 @@ impl<'a> Clone for OidContents<'a> {
 
     ghost is_infallible = { λ _. ⊤ };
 
-    /// An iterator over the same octets. It allocates nothing.
+    /// Returns an iterator over the same octets.
+    ///
+    /// # Errors
+    ///
+    /// Never returns an error: it allocates nothing.
     fn clone(&self) -> Result<OidContents<'a>, AllocError> {
         Ok(OidContents {
             octets: self.octets,
@@ -218,7 +227,7 @@ impl<'a> Iterator for OidContents<'a> {
         Some(octet)
     }
 
-    /// Returns how many octets are left, twice.
+    /// Returns the number of octets that are left, twice.
     fn size_hint(&self) -> (usize, Option<usize>)
         ensures lower { IsWithinCount result.0 (item_count (λ s. s) self.now) }
         ensures upper { IfSome result.1 (UpTo (item_count (λ s. s) self.now)) }
@@ -230,7 +239,7 @@ impl<'a> Iterator for OidContents<'a> {
 }
 
 impl<'a> ExactSizeIterator for OidContents<'a> {
-    /// Returns how many octets are left. It goes over the arcs that are left.
+    /// Returns the number of octets that are left. It visits each arc that is left.
     fn len(&self) -> usize {
         self.count_left()
     }

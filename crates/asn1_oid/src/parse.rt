@@ -18,7 +18,7 @@ pub enum DottedTextError {
     /// It is not the decimals of valid arcs within `u32`, joined by full stops.
     #[error("no dotted text of an object identifier")]
     Malformed,
-    /// It is the text of an identifier, but there is no memory.
+    /// It is the text of an identifier, but out of memory.
     #[error("out of memory")]
     Memory,
 }
@@ -34,9 +34,9 @@ impl From<AllocError> for DottedTextError {
     }
 }
 
-/// Writes the arcs of a dotted text to the front of the room, if they all have a place there, and
-/// returns how many the text has; None if the text is not that of an identifier, whose arcs all
-/// fit `u32`. Where the room is too small or the answer is None, nothing is said of the room. It
+/// Writes the arcs of a dotted text to the front of the room, if they all fit, and returns their
+/// number. It returns `None` if the text is not that of an identifier whose arcs all fit `u32`. If
+/// the room is too small or the result is `None`, nothing is said of what the room holds. It
 /// allocates nothing.
 pub fn parse_arcs(text: &[u8], room: &mut [u32]) -> Option<usize>
     ensures some { IfSome result (λ k. (arcs : List ℕ) × IsDottedText arcs text.now

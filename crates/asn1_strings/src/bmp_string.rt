@@ -33,7 +33,11 @@ impl StringKind for Bmp {
 pub type BmpString = RestrictedString<Bmp>;
 
 impl RestrictedString<Bmp> {
-    /// Two octets for each character, the higher first. It allocates unless the string is empty.
+    /// Returns two octets for each character, the higher first (X.690 8.23).
+    ///
+    /// # Errors
+    ///
+    /// Returns `AllocError` if out of memory. An empty string never fails.
     pub fn to_bytes(&self) -> Result<Vec<u8>, AllocError>
         ensures octets { IfOk result (λ v. v.items ≡ flat_map (to_be_bytes w16) self.now) }
         // `try_from_slice` of them is the same string.
@@ -68,7 +72,7 @@ impl<'a> IntoIterator for &'a RestrictedString<Bmp> {
 
     ghost into_iter_gives = { λ s characters. characters ≡ s.now };
 
-    /// An iterator over the characters.
+    /// Returns an iterator over the characters.
     fn into_iter(self) -> Chars<'a, u16> {
         StaticPermittedAlphabet::chars(self)
     }

@@ -75,7 +75,11 @@ impl<'a, T: CodeUnit> Clone for Chars<'a, T> {
 
     ghost is_infallible = { λ _. ⊤ };
 
-    /// An iterator over the same characters. It allocates nothing.
+    /// Returns an iterator over the same characters.
+    ///
+    /// # Errors
+    ///
+    /// Never returns an error: it allocates nothing.
     fn clone(&self) -> Result<Chars<'a, T>, AllocError> {
         Ok(Chars { units: self.units })
     }
@@ -88,7 +92,7 @@ impl<'a, K: StringKind<T = u8>> IntoIterator for &'a RestrictedString<K> {
 
     ghost into_iter_gives = { λ s characters. characters ≡ s.now };
 
-    /// An iterator over the characters.
+    /// Returns an iterator over the characters.
     fn into_iter(self) -> Chars<'a, u8> {
         StaticPermittedAlphabet::chars(self)
     }

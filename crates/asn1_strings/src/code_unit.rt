@@ -1,4 +1,4 @@
-//! How strings keep a character.
+//! The integers in which strings keep a character.
 ghost use Rattle.std.specs.Prelude.{◌≡◌, ◌≢◌, ◌≤◌, ◌<◌, ◌↔◌, ℕ, true, [], nat_eq, map, All, IsTrue, IfOk, OnErr};
 ghost use Rattle.std.specs.Ordering.{nat_cmp};
 ghost use Rattle.std.specs.Cmp.Lexicographic.{pointwise, slice_cmp};
@@ -25,36 +25,44 @@ pub trait CodeUnit: Copy + Drop + fmt::Debug {
     /// The octets of a character in the contents of the string (X.690 8.23).
     ghost OCTETS: { ℕ };
 
-    /// How many octets a character has in the contents of the string (X.690 8.23).
+    /// The number of octets of a character in the contents of the string (X.690 8.23).
     const OCTETS: usize;
 
-    /// The character.
+    /// Returns the character.
     fn to_character(self) -> u32
         ensures { result ≡ value self };
 
-    /// The unit that keeps a character.
+    /// Returns the unit that keeps a character.
+    ///
+    /// The character must be below `limit`.
     fn from_character(character: u32) -> Self
         requires { character < limit }
         ensures { value result ≡ character };
 
-    /// Whether the set has each character of these octets. No early exit, so that the loop
-    /// vectorises.
+    /// Returns whether the set has each character of these octets. It has no early exit, so that
+    /// the loop vectorises.
+    ///
+    /// The set must be of a string whose characters have `OCTETS` octets.
     fn are_in(name: CharacterSetName, octets: &[u8]) -> bool
         requires { OCTETS ≡ character_octets name }
         ensures { IsTrue result ↔ All (λ c. has_character (base_set name) c ≡ true)
             (map unsigned (pieces OCTETS octets.now)) };
 
-    /// The units of these octets. It allocates unless there are none.
+    /// Returns the units of these octets.
+    ///
+    /// # Errors
+    ///
+    /// Returns `AllocError` if out of memory and there is at least one unit.
     fn of_octets(alloc: Global, octets: &[u8]) -> Result<Vec<Self>, AllocError>
         ensures units { IfOk result
             (λ v. map value v.items ≡ map unsigned (pieces OCTETS octets.now)) }
         ensures memory { OnErr result (map unsigned (pieces OCTETS octets.now) ≢ []) };
 
-    /// Whether two runs of units have the same characters.
+    /// Returns whether two runs of units have the same characters.
     fn are_equal(xs: &[Self], ys: &[Self]) -> bool
         ensures { result ≡ pointwise nat_eq (map value xs.now) (map value ys.now) };
 
-    /// How two runs of units compare, character by character.
+    /// Compares two runs of units, character by character.
     fn compare(xs: &[Self], ys: &[Self]) -> Ordering
         ensures { result ≡ slice_cmp nat_cmp (map value xs.now) (map value ys.now) };
 

@@ -7,7 +7,7 @@ use std::array::TryFromSliceError;
 use std::convert::AsSlice;
 use std::ops::{Deref, DerefMut};
 
-/// An OCTET STRING of N octets (X.680 23), in place.
+/// An OCTET STRING of `N` octets (X.680 23), inline.
 #[derive(Clone, Copy, Debug, PartialEq, Eq, PartialOrd, Ord, Hash)]
 pub struct FixedOctetString<const N: usize> {
     /// The octets.
@@ -15,14 +15,14 @@ pub struct FixedOctetString<const N: usize> {
 }
 
 impl<const N: usize> FixedOctetString<N> {
-    /// The string of these octets.
+    /// Returns the string of these octets.
     pub fn new(octets: [u8; N]) -> FixedOctetString<N>
         ensures { result.octets ≡ octets.entry }
     {
         FixedOctetString { octets }
     }
 
-    /// The string of these octets, and None where they are not N.
+    /// Returns the string of these octets, or `None` if there are not `N`.
     pub fn try_from_slice(octets: &[u8]) -> Option<FixedOctetString<N>>
         ensures some { IsSome result ↔ (length octets.now ≡ N) }
         ensures value { IfSome result (λ s. s.octets ≡ octets.now) }
@@ -33,7 +33,11 @@ impl<const N: usize> FixedOctetString<N> {
         }
     }
 
-    /// The string of these octets. The vector comes back where they are not N.
+    /// Returns the string of these octets.
+    ///
+    /// # Errors
+    ///
+    /// Returns the vector if there are not `N` octets.
     pub fn try_from_vec(octets: Vec<u8>) -> Result<FixedOctetString<N>, Vec<u8>>
         ensures err { IsErr result ↔ (length octets.items ≢ N) }
         ensures value { IfOk result (λ s. s.octets ≡ octets.items) }
@@ -45,7 +49,7 @@ impl<const N: usize> FixedOctetString<N> {
         }
     }
 
-    /// The string of these octets, and None where they are not N.
+    /// Returns the string of these octets, or `None` if there are not `N`.
     pub fn try_from_octet_string(octets: &OctetString) -> Option<FixedOctetString<N>>
         ensures some { IsSome result ↔ (length octets.now ≡ N) }
         ensures value { IfSome result (λ s. s.octets ≡ octets.now) }
@@ -72,7 +76,7 @@ impl<const N: usize> TryFrom<&[u8]> for FixedOctetString<N> {
     ///
     /// # Errors
     ///
-    /// Returns an error if they are not N.
+    /// Returns `TryFromSliceError` if there are not `N` octets.
     fn try_from(octets: &[u8]) -> Result<FixedOctetString<N>, TryFromSliceError> {
         let octets = <[u8; N]>::try_from(octets)?;
         Ok(FixedOctetString { octets })
@@ -108,7 +112,7 @@ impl<const N: usize> Deref for FixedOctetString<N> {
 
     ghost deref_gives = { λ s octets. octets ≡ s.octets };
 
-    /// The array of the octets, to read.
+    /// Borrows the array of the octets.
     fn deref(&self) -> &[u8; N] {
         &self.octets
     }
@@ -119,7 +123,7 @@ impl<const N: usize> DerefMut for FixedOctetString<N> {
 
     ghost deref_mut_gives = { λ s octets. octets ≡ s.octets };
 
-    /// The array of the octets, to write: the string ends with what was last written there.
+    /// Borrows the array of the octets mutably: the string ends with what was last written there.
     fn deref_mut(&mut self) -> &mut [u8; N]
         ensures shows { result.now ≡ self.old.octets }
         ensures* writes_back { sem 𝓛 (Lends (the_row N.row) (Array octet N) self.entry result

@@ -1,7 +1,8 @@
 //! Octet strings, and the eight restricted character strings of ASN.1 over the base sets of
 //! `asn1_characters`.
 //!
-//! An octet string is a list of octets (X.680 23), shared or in place.
+//! An octet string is a list of octets (X.680 23), shared or inline.
+//!
 //! A string is a list of characters, each in the base set of its kind (X.680 41). It is read from
 //! its contents (X.690 8.23), a text, bits or an alphabet, whole and in order, or the error names
 //! its first invalid piece. The names of `asn1_characters` and of `asn1_alphabets` are re-exported.

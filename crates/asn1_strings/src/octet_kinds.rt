@@ -1,4 +1,4 @@
-//! What strings have whose characters are octets.
+//! The calls of strings whose characters are octets.
 ghost use Rattle.std.specs.Prelude.{◌≡◌, ◌≢◌, ◌<◌, ℕ, true, [], Some, OnErr, IfOk, IfErr, string_bytes};
 ghost use Rattle.asn1_characters.specs.Sets.{base_set, has_character};
 ghost use Rattle.asn1_strings.specs.Strings.{Answers, string_of_octets};
@@ -28,8 +28,12 @@ pub trait AsText: StringKind<T = u8> {
 pub trait IsIso646: AsText {}
 
 impl<K: HasFromBytes> RestrictedString<K> {
-    /// Returns the string of these characters, one octet each. The errors are those of
-    /// `try_from_slice`.
+    /// Returns the string of these characters, one octet each.
+    ///
+    /// # Errors
+    ///
+    /// Returns `InvalidRestrictedString` for the first character that the string may not hold,
+    /// otherwise `Memory` if out of memory. An empty input never fails.
     pub fn from_bytes(alloc: Global, bytes: &[u8]) -> Result<Self, PermittedAlphabetError>
         ensures { Answers (λ s. s) result (string_of_octets K.NAME 1 bytes.now) }
     {
@@ -38,7 +42,7 @@ impl<K: HasFromBytes> RestrictedString<K> {
 }
 
 impl<K: HasAsBytes> RestrictedString<K> {
-    /// The characters, one octet each.
+    /// Borrows the characters, one octet each.
     pub fn as_bytes(&self) -> &[u8]
         ensures { result.now ≡ self.now }
     {
@@ -55,14 +59,14 @@ impl<K: StringKind<T = u8>> AsSlice<u8> for RestrictedString<K> {
 }
 
 impl<K: AsText> RestrictedString<K> {
-    /// The characters as a text. It reads each, to see that it is ASCII.
+    /// Borrows the characters as a text. It reads each, to check that it is ASCII.
     pub fn as_str(&self) -> &str
         ensures { result.now ≡ self.now }
     {
         str::from_utf8(self.as_slice()).unwrap()
     }
 
-    /// The characters as a text, without a copy. It allocates nothing.
+    /// Returns the characters as a text, without a copy. It allocates nothing.
     pub fn into_string(self) -> String
         ensures { string_bytes result ≡ self }
     {
@@ -71,23 +75,30 @@ impl<K: AsText> RestrictedString<K> {
 }
 
 impl<K: IsIso646> RestrictedString<K> {
-    /// Returns the string of these characters, one octet each. The errors are those of
-    /// `try_from_slice`.
+    /// Returns the string of these characters, one octet each.
+    ///
+    /// # Errors
+    ///
+    /// Returns `InvalidRestrictedString` for the first character that the string may not hold,
+    /// otherwise `Memory` if out of memory. An empty input never fails.
     pub fn from_iso646_bytes(alloc: Global, bytes: &[u8]) -> Result<Self, PermittedAlphabetError>
         ensures { Answers (λ s. s) result (string_of_octets K.NAME 1 bytes.now) }
     {
         Self::try_from_slice(alloc, bytes)
     }
 
-    /// The characters, one octet each.
+    /// Borrows the characters, one octet each.
     pub fn as_iso646_bytes(&self) -> &[u8]
         ensures { result.now ≡ self.now }
     {
         self.as_slice()
     }
 
-    /// Returns the characters as octets, without a copy. If out of memory for their reference
-    /// count, which the empty string does not need, the string is returned.
+    /// Returns the characters as octets, without a copy.
+    ///
+    /// # Errors
+    ///
+    /// Returns the string if out of memory for the reference count. An empty string never fails.
     pub fn into_octet_string(self) -> Result<OctetString, Self>
         ensures octets { IfOk result (λ octets. octets ≡ self) }
         ensures back { IfErr result (λ s. s ≡ self) }

@@ -21,7 +21,7 @@ impl Model for OctetString {
 }
 
 impl OctetString {
-    /// A string of octets that live as long as the program. It allocates nothing.
+    /// Returns a string of `'static` octets. It allocates nothing.
     pub fn from_static(octets: &'static [u8]) -> OctetString
         ensures { result ≡ octets.now }
     {
@@ -30,7 +30,11 @@ impl OctetString {
         }
     }
 
-    /// A copy of the octets. It allocates unless there are none.
+    /// Copies the octets.
+    ///
+    /// # Errors
+    ///
+    /// Returns `AllocError` if out of memory. An empty slice never fails.
     pub fn from_slice(alloc: Global, octets: &[u8]) -> Result<OctetString, AllocError>
         ensures octets { IfOk result (λ s. s ≡ octets.now) }
         ensures memory { OnErr result (octets.now ≢ []) }
@@ -43,7 +47,11 @@ impl OctetString {
         })
     }
 
-    /// A copy of the array's octets. It allocates unless there are none.
+    /// Copies the array's octets.
+    ///
+    /// # Errors
+    ///
+    /// Returns `AllocError` if out of memory. An empty array never fails.
     pub fn from_array<const N: usize>(
         alloc: Global,
         octets: [u8; N],
@@ -54,8 +62,11 @@ impl OctetString {
         OctetString::from_slice(alloc, &octets)
     }
 
-    /// Returns the vector's octets, without a copy. If out of memory for the reference count, the
-    /// vector is returned. An empty vector never fails.
+    /// Returns the vector's octets as a string, without a copy.
+    ///
+    /// # Errors
+    ///
+    /// Returns the vector if out of memory for the reference count. An empty vector never fails.
     pub fn from_vec(octets: Vec<u8>) -> Result<OctetString, Vec<u8>>
         ensures octets { IfOk result (λ s. s ≡ octets.items) }
         ensures back { IfErr result (λ v. v.items ≡ octets.items) }
@@ -67,14 +78,18 @@ impl OctetString {
         }
     }
 
-    /// The string of shared octets. It allocates nothing.
+    /// Returns the string of shared octets. It allocates nothing.
     pub fn from_bytes(bytes: Bytes) -> OctetString
         ensures { result ≡ bytes }
     {
         OctetString { bytes }
     }
 
-    /// A share of the octets. Memory may be asked for where there are any.
+    /// Shares the octets. It may allocate if there are any.
+    ///
+    /// # Errors
+    ///
+    /// Returns `AllocError` if out of memory. Empty `Bytes` never fail.
     pub fn from_bytes_ref(bytes: &Bytes) -> Result<OctetString, AllocError>
         ensures octets { IfOk result (λ s. s ≡ bytes.now) }
         ensures memory { OnErr result (bytes.now ≢ []) }
@@ -87,14 +102,22 @@ impl OctetString {
         })
     }
 
-    /// Returns the octets as `Bytes`. They are in one already, so this never fails.
+    /// Returns the octets as `Bytes`, which they are already.
+    ///
+    /// # Errors
+    ///
+    /// Never returns an error.
     pub fn into_bytes(self, _alloc: Global) -> Result<Bytes, OctetString>
         ensures { IsOkAnd result (λ b. b ≡ self) }
     {
         Ok(self.bytes)
     }
 
-    /// A share of the octets. Memory may be asked for where there are any.
+    /// Shares the octets as `Bytes`. It may allocate if there are any.
+    ///
+    /// # Errors
+    ///
+    /// Returns `AllocError` if out of memory. An empty string never fails.
     pub fn to_bytes(&self, _alloc: Global) -> Result<Bytes, AllocError>
         ensures octets { IfOk result (λ b. b ≡ self.now) }
         ensures memory { OnErr result (self.now ≢ []) }
@@ -105,35 +128,39 @@ impl OctetString {
         self.bytes.clone()
     }
 
-    /// The octets.
+    /// Borrows the octets.
     pub fn as_ref(&self) -> &[u8]
         ensures { result.now ≡ self.now }
     {
         self.bytes.as_slice()
     }
 
-    /// How many octets there are.
+    /// Returns the number of octets.
     pub fn len(&self) -> usize
         ensures { result ≡ length self.now }
     {
         self.bytes.len()
     }
 
-    /// Whether there are no octets.
+    /// Returns whether there are no octets.
     pub fn is_empty(&self) -> bool
         ensures { IsTrue result ↔ (self.now ≡ []) }
     {
         self.as_ref().is_empty()
     }
 
-    /// Whether the octets are these.
+    /// Returns whether the octets are these.
     pub fn eq_bytes(&self, octets: &[u8]) -> bool
         ensures { IsTrue result ↔ (self.now ≡ octets.now) }
     {
         self.as_ref() == octets
     }
 
-    /// A share of the octets. Memory may be asked for where there are any.
+    /// Shares the octets. It may allocate if there are any.
+    ///
+    /// # Errors
+    ///
+    /// Returns `AllocError` if out of memory. An empty string never fails.
     pub fn clone(&self) -> Result<OctetString, AllocError>
         ensures octets { IfOk result (λ s. s ≡ self.now) }
         ensures memory { OnErr result (self.now ≢ []) }

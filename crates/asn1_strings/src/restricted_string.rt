@@ -115,7 +115,7 @@ impl<K: StringKind> StaticPermittedAlphabet for RestrictedString<K> {
 }
 
 impl<K: StringKind> RestrictedString<K> {
-    /// The units, one for each character.
+    /// Borrows the units, one for each character.
     pub fn as_slice(&self) -> &[K::T]
         ensures list { map K.T.value result.now ≡ self.now }
         ensures in_set { All (λ c. has_character (base_set K.NAME) c ≡ true) self.now }
@@ -123,14 +123,14 @@ impl<K: StringKind> RestrictedString<K> {
         self.units.as_slice()
     }
 
-    /// Whether there are no characters.
+    /// Returns whether there are no characters.
     pub fn is_empty(&self) -> bool
         ensures { IsTrue result ↔ (self.now ≡ []) }
     {
         self.units.is_empty()
     }
 
-    /// The units, one for each character, without a copy.
+    /// Returns the units, one for each character, without a copy.
     pub fn into_vec(self) -> Vec<K::T>
         ensures list { map K.T.value result.items ≡ self }
         ensures in_set { All (λ c. has_character (base_set K.NAME) c ≡ true) self }
@@ -143,7 +143,11 @@ impl<K: StringKind> RestrictedString<K> {
         *self.units.allocator()
     }
 
-    /// Copies the string. It allocates unless the string is empty.
+    /// Copies the string.
+    ///
+    /// # Errors
+    ///
+    /// Returns `AllocError` if out of memory. An empty string never fails.
     pub fn clone(&self) -> Result<Self, AllocError>
         ensures same { IfOk result (λ s. s ≡ self.now) }
         ensures memory { OnErr result (self.now ≢ []) }

@@ -1,4 +1,4 @@
-//! What the eight strings have in common.
+//! The calls that the eight strings have in common.
 ghost use Rattle.std.specs.Prelude.{◌≡◌, ◌≢◌, ◌≤◌, ◌<◌, ◌^◌, ◌⊎◌, ℕ, Bool, true, List, [], ◌∷◌, ◌++◌, length, map, All, Ok, None, OnOk, OnErr, string_bytes};
 ghost use Rattle.asn1_bits.specs.BitStr.{bits_of};
 ghost use Rattle.asn1_characters.specs.Sets.{base_set, base_count, base_largest, base_width, base_indexed, has_character};
@@ -24,13 +24,14 @@ use std::collections::BTreeMap;
 
 /// A restricted character string (X.680 41): a list of characters, each in the string's base set.
 ///
-/// The calls that read a string examine the whole input, whatever memory there is. Those that read
+/// The calls that read a string examine the whole input, even if out of memory. Those that read
 /// bits allocate room for all characters before they look at the first.
 ///
 /// # Errors
 ///
-/// A call that reads returns `Other`, otherwise `InvalidData`, otherwise the first wrong character.
-/// It returns `Memory` only if the input is that of a string that is not empty.
+/// A call that reads returns `Other` if the width is 0 octets, otherwise `InvalidData` if the input
+/// is not a whole number of characters, otherwise the error of the first invalid character. It
+/// returns `Memory` only if none of these applies and the string is not empty.
 pub trait StaticPermittedAlphabet: HasCharacterSet + Sized + Drop {
     ghost use Rattle.asn1_characters.specs.declared.character_set.CharacterRanges.{CharacterRanges};
 
@@ -39,12 +40,13 @@ pub trait StaticPermittedAlphabet: HasCharacterSet + Sized + Drop {
 
     ghost CHARACTER_SET_RANGES: { CharacterRanges };
 
-    /// First and last character of each range of the set, in the set's order: `as_slice` has them.
+    /// The first and last character of each range of the set, in the set's order; `as_slice`
+    /// returns them.
     const CHARACTER_SET_RANGES: CharacterRanges;
 
     ghost CHARACTER_SET_COUNT: { ℕ };
 
-    /// How many characters the set has.
+    /// The number of characters of the set.
     const CHARACTER_SET_COUNT: u32;
 
     ghost CHARACTER_SET_WIDTH: { ℕ };
@@ -59,59 +61,79 @@ pub trait StaticPermittedAlphabet: HasCharacterSet + Sized + Drop {
 
     ghost IS_INDEXED: { Bool };
 
-    /// Whether characters are written by their places, since the largest does not fit the width.
+    /// Whether characters are encoded by their indices, since the largest does not fit the width.
     const IS_INDEXED: bool;
 
     /// The characters of a string.
     ghost characters: { Self → List ℕ };
 
-    /// The empty string.
+    /// Returns the empty string.
     fn new(alloc: Global) -> Self
         ensures { characters result ≡ [] };
 
-    /// Appends a character of the set. If out of memory, the string is unchanged.
+    /// Appends a character.
+    ///
+    /// The character must be in the string's base set.
+    ///
+    /// # Errors
+    ///
+    /// Returns `AllocError` if out of memory; the string is then unchanged.
     fn push_char(&mut self, character: u32) -> Result<(), AllocError>
         requires { has_character (base_set Self.CHARACTER_SET_NAME) character ≡ true }
         ensures ok { OnOk result (characters self.new ≡ characters self.old ++ character ∷ []) }
         ensures err { OnErr result (characters self.new ≡ characters self.old) };
 
-    /// Reserves room for so many more characters; for 0 it allocates nothing. The string stays,
-    /// also if out of memory.
+    /// Reserves room for `additional` more characters.
+    ///
+    /// # Errors
+    ///
+    /// Returns `AllocError` if out of memory. It never fails for 0 characters. The string is
+    /// unchanged.
     fn reserve(&mut self, additional: usize) -> Result<(), AllocError>
         ensures same { characters self.new ≡ characters self.old }
         ensures memory { OnErr result (additional ≢ 0) };
 
-    /// How many characters it has.
+    /// Returns the number of characters.
     fn len(&self) -> usize
         ensures { result ≡ length (characters self.now) };
 
-    /// The string of these units, each of which the caller knows to be in the set.
+    /// Returns the string of these units.
+    ///
+    /// The characters of the units must be in the string's base set.
     fn from_units(units: Vec<Self::T>) -> Self
         requires { All (λ c. has_character (base_set Self.CHARACTER_SET_NAME) c ≡ true)
             (map Self.T.value units.items) }
         ensures { characters result ≡ map Self.T.value units.items };
 
-    /// Its characters, in their order.
+    /// Returns an iterator over the characters.
     fn chars(&self) -> Chars<'_, Self::T>
         ensures list { result ≡ characters self.now }
         ensures in_set { All (λ c. has_character (base_set Self.CHARACTER_SET_NAME) c ≡ true)
             (characters self.now) };
 
-    /// Whether the set has the character, as `CharacterSetName::contains` says.
+    /// Returns whether the set has the character, as `CharacterSetName::contains`.
     fn contains_char(character: u32) -> bool
         ensures { result ≡ has_character (base_set Self.CHARACTER_SET_NAME) character }
     {
         Self::CHARACTER_SET_NAME.contains(character)
     }
 
-    /// The string's own error for a character.
+    /// Returns the string's own error for a character.
     fn invalid_restricted_string(character: u32) -> InvalidRestrictedString
         ensures { result ≡ own_error Self.CHARACTER_SET_NAME character }
     {
         InvalidRestrictedString::of(Self::CHARACTER_SET_NAME, character)
     }
 
-    /// The string of characters of `width` octets each, most significant first. Width 0 is `Other`.
+    /// Returns the string of characters of `width` octets each, most significant first.
+    ///
+    /// The width must be 0, 1, 2 or 4.
+    ///
+    /// # Errors
+    ///
+    /// Returns `Other` if the width is 0, otherwise `InvalidData` if the octets are not a whole
+    /// number of characters, otherwise `InvalidRestrictedString` for the first character that the
+    /// string may not hold, otherwise `Memory` if out of memory.
     final fn try_from_slice_with_width(
         alloc: Global,
         input: &[u8],
@@ -139,8 +161,14 @@ pub trait StaticPermittedAlphabet: HasCharacterSet + Sized + Drop {
         string_of_pieces::<Self>(alloc, input, width)
     }
 
-    /// The string that these octets are the contents of (X.690 8.23): one octet a character, two in
-    /// `BmpString`, most significant first.
+    /// Returns the string that these octets are the contents of (X.690 8.23): one octet a
+    /// character, two in `BmpString`, most significant first.
+    ///
+    /// # Errors
+    ///
+    /// Returns `InvalidData` if the octets are not a whole number of characters, otherwise
+    /// `InvalidRestrictedString` for the first character that the string may not hold, otherwise
+    /// `Memory` if out of memory. An empty input never fails.
     final fn try_from_slice(alloc: Global, input: &[u8]) -> Result<Self, PermittedAlphabetError>
         ensures { let width = character_octets Self.CHARACTER_SET_NAME in
             Answers characters result (string_of_octets Self.CHARACTER_SET_NAME width input.now) }
@@ -148,7 +176,12 @@ pub trait StaticPermittedAlphabet: HasCharacterSet + Sized + Drop {
         Self::try_from_slice_with_width(alloc, input, <Self::T as CodeUnit>::OCTETS)
     }
 
-    /// As `try_from_slice`, of the octets of the text in UTF-8, for `BmpString` too.
+    /// Returns the string of the octets of the text in UTF-8, as `try_from_slice`, for `BmpString`
+    /// too.
+    ///
+    /// # Errors
+    ///
+    /// Returns the errors of `try_from_slice`.
     final fn try_from_str(alloc: Global, input: &str) -> Result<Self, PermittedAlphabetError>
         ensures { let width = character_octets Self.CHARACTER_SET_NAME in
             Answers characters result (string_of_octets Self.CHARACTER_SET_NAME width input.now) }
@@ -156,7 +189,11 @@ pub trait StaticPermittedAlphabet: HasCharacterSet + Sized + Drop {
         Self::try_from_slice(alloc, input.as_bytes())
     }
 
-    /// As `try_from_slice`, of the octets of the vector.
+    /// Returns the string of the octets of the vector, as `try_from_slice`.
+    ///
+    /// # Errors
+    ///
+    /// Returns the errors of `try_from_slice`.
     final fn try_from_vec(alloc: Global, input: Vec<u8>) -> Result<Self, PermittedAlphabetError>
         ensures { let width = character_octets Self.CHARACTER_SET_NAME in
             Answers characters result (string_of_octets Self.CHARACTER_SET_NAME width input.items) }
@@ -164,7 +201,12 @@ pub trait StaticPermittedAlphabet: HasCharacterSet + Sized + Drop {
         Self::try_from_slice(alloc, input.as_slice())
     }
 
-    /// As `try_from_slice`, of the octets of the text in UTF-8, for `BmpString` too.
+    /// Returns the string of the octets of the text in UTF-8, as `try_from_slice`, for `BmpString`
+    /// too.
+    ///
+    /// # Errors
+    ///
+    /// Returns the errors of `try_from_slice`.
     final fn try_from_string(alloc: Global, input: String) -> Result<Self, PermittedAlphabetError>
         ensures { let width = character_octets Self.CHARACTER_SET_NAME in
             let octets = string_bytes input in
@@ -173,7 +215,11 @@ pub trait StaticPermittedAlphabet: HasCharacterSet + Sized + Drop {
         Self::try_from_slice(alloc, input.as_bytes())
     }
 
-    /// As `try_from_slice`, of the octets of the octet string.
+    /// Returns the string of the octets of the octet string, as `try_from_slice`.
+    ///
+    /// # Errors
+    ///
+    /// Returns the errors of `try_from_slice`.
     final fn try_from_octet_string(
         alloc: Global,
         input: OctetString,
@@ -184,8 +230,15 @@ pub trait StaticPermittedAlphabet: HasCharacterSet + Sized + Drop {
         Self::try_from_slice(alloc, input.as_ref())
     }
 
-    /// The string of characters of `width` bits each, by value, most significant first. Width 0 is
-    /// `InvalidData`.
+    /// Returns the string of characters of `width` bits each, by value, most significant first.
+    ///
+    /// The width must be at most 32.
+    ///
+    /// # Errors
+    ///
+    /// Returns `InvalidData` if the width is 0 or the bits are not a whole number of characters,
+    /// otherwise `InvalidRestrictedString` for the first character that the string may not hold,
+    /// otherwise `Memory` if out of memory.
     final fn try_from_bits(
         alloc: Global,
         input: BitStr<'_>,
@@ -215,12 +268,19 @@ pub trait StaticPermittedAlphabet: HasCharacterSet + Sized + Drop {
         string_of_numbers::<Self>(alloc, BitPieces { bits: input, width })
     }
 
-    /// Returns the string of bits that an alphabet encodes (X.691 30.5): a map takes keys to
-    /// characters, and `None` is the base set with its indices as keys. Each character has the
-    /// least width of so many entries; width 0, so also a map of one entry or none, is
-    /// `InvalidData`. If the largest character does not fit the width, the numbers are keys: one
-    /// that is missing is `IndexNotFound`. Otherwise they are characters, which the string's own
-    /// set alone decides.
+    /// Returns the string of bits that an alphabet encodes (X.691 30.5). A map takes keys to
+    /// characters; `None` is the base set with its indices as keys. Each character has the least
+    /// width of so many entries. If the largest character does not fit the width, the numbers are
+    /// keys; otherwise they are characters, and only the string's own set decides which are valid.
+    ///
+    /// The map must have at most 2^31 entries.
+    ///
+    /// # Errors
+    ///
+    /// Returns `InvalidData` if the width is 0, so also for a map of one entry or none, or if the
+    /// bits are not a whole number of characters. Otherwise the first invalid character is named:
+    /// `IndexNotFound` if its key is absent, `InvalidRestrictedString` if the string may not hold
+    /// it. Otherwise it returns `Memory` if out of memory.
     final fn try_from_permitted_alphabet(
         alloc: Global,
         input: BitStr<'_>,
@@ -240,7 +300,12 @@ pub trait StaticPermittedAlphabet: HasCharacterSet + Sized + Drop {
         }
     }
 
-    /// As `try_from_permitted_alphabet` without a map.
+    /// Returns the string of bits that the base set encodes, as `try_from_permitted_alphabet`
+    /// without a map.
+    ///
+    /// # Errors
+    ///
+    /// Returns the errors of `try_from_permitted_alphabet`.
     final fn try_from_bit_string(
         alloc: Global,
         input: BitString,

@@ -1,4 +1,4 @@
-//! The kind of a string: what the eight differ in.
+//! The kinds of string: what distinguishes the eight.
 ghost use Rattle.std.specs.Prelude.{◌≡◌, ◌<◌, ℕ, true};
 ghost use Rattle.asn1_characters.specs.Sets.{base_set, has_character};
 ghost use Rattle.asn1_strings.specs.Strings.{character_octets};
@@ -16,7 +16,7 @@ pub trait StringKind: fmt::Debug {
 
     ghost NAME: { CharacterSetName };
 
-    /// Which of the eight it is.
+    /// The name of the string.
     const NAME: CharacterSetName;
 
     /// Every character of the set can be kept.

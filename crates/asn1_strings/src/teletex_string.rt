@@ -31,7 +31,11 @@ impl HasFromBytes for Teletex {}
 pub type TeletexString = RestrictedString<Teletex>;
 
 impl RestrictedString<Teletex> {
-    /// A copy of the characters, one octet each. It allocates unless the string is empty.
+    /// Copies the characters, one octet each.
+    ///
+    /// # Errors
+    ///
+    /// Returns `AllocError` if out of memory. An empty string never fails.
     pub fn to_bytes(&self) -> Result<Vec<u8>, AllocError>
         ensures octets { IfOk result (λ v. v.items ≡ self.now) }
         ensures memory { OnErr result (self.now ≢ []) }

@@ -2,7 +2,7 @@
 //! character strings, bits, and the reading and writing of bit fields that are made of them.
 //!
 //! [`bit_fields`] writes fields one after another after the bits of a buffer, and reads them back
-//! from any bit of any storage. The other names are those of the crates below, which are passed on.
+//! from any bit of any storage. The other names are re-exported from the crates below.
 #![tactic(auto)]
 
 pub mod bit_fields;

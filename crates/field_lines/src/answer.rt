@@ -23,8 +23,12 @@ pub struct Answer {
     pub status: u8,
 }
 
-/// Answers three lines: the shapes of fields, octets in hexadecimal, and the bit at which the first
-/// field begins. The first invalid line decides. The only error is out of memory.
+/// Answers three lines: the shapes of fields, octets in hexadecimal, and the index of the bit at
+/// which the first field begins. The first invalid line decides.
+///
+/// # Errors
+///
+/// Returns `AllocError` if out of memory. Invalid input is no error: its answer has status 1.
 pub fn answer(alloc: Global, text: &[u8]) -> Result<Answer, AllocError>
     // It is an answer to the text, which has no other.
     ensures answer { IfOk result (λ answer. IsOnly (IsAnswer text.now) (answer_in answer)) }

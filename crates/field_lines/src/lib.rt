@@ -1,9 +1,9 @@
 //! Fields of bits between lines of text.
 //!
-//! [`answer`] reads three lines: the shapes of fields, octets, and a bit. It reads the fields from
-//! that bit of the octets on, prints each in a line, and prints the octets that the same fields
-//! fill. The first thing that is wrong is named in one line. By its contract an input has one
-//! answer; `specs/` has what a line says (`Input`), what is printed (`Output`), and the answer.
+//! [`answer`] reads three lines: the shapes of fields, octets, and the index of a bit. It reads
+//! the fields from that bit of the octets on, prints each in a line, and prints the octets that the
+//! same fields fill. The first fault is named in one line. By its contract an input has one answer;
+//! `specs/` has what a line says (`Input`), what is printed (`Output`), and the answer.
 #![tactic(auto)]
 
 mod answer;

@@ -1,18 +1,18 @@
-//! Why a stream was not read or written whole.
+//! Errors of reading or writing a whole stream.
 
 use std::alloc::AllocError;
 use thiserror::Error;
 
-/// Why a stream was not read or written whole.
+/// Why a whole stream was not read or written.
 #[derive(Clone, Copy, Debug, PartialEq, Eq, Error)]
 pub enum StreamError {
     /// The input could not be read, or did not end within 1,048,576 reads.
     #[error("the input cannot be read")]
     Read,
-    /// The output could not be written; a front of the octets may have gone out.
+    /// The output could not be written; a front of the octets may have been written.
     #[error("the output cannot be written")]
     Write,
-    /// There is no memory.
+    /// Out of memory.
     #[error("out of memory")]
     Memory,
 }

@@ -1,9 +1,9 @@
 //! Octet streams, read and written whole.
 //!
-//! [`read_to_end`] gives all that an input holds, and [`write_all`] writes all of some octets and
-//! flushes them. Each works with any reader or writer. What they say of octets holds where those of
-//! the stream are known, as over memory, and [`StreamError`] says which of the two failed.
-//! [`status_of`] is the status that a program ends with.
+//! [`read_to_end`] returns all octets of an input, and [`write_all`] writes all octets of a slice
+//! and flushes the output. Each works with any reader or writer. What they say of octets holds if
+//! those of the stream are known, as over memory. [`StreamError`] says which of the two failed, and
+//! [`status_of`] returns the status that a program ends with.
 #![tactic(auto)]
 
 mod error;

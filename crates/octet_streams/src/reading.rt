@@ -14,8 +14,8 @@ const READS: u32 = 1_048_576;
 ///
 /// # Errors
 ///
-/// `Read` if a read fails or the input does not end within 1,048,576 reads; `Memory` if there is no
-/// memory for the octets that were read.
+/// Returns `Read` if a read fails or the input does not end within 1,048,576 reads, and `Memory` if
+/// out of memory for the octets that were read.
 pub fn read_to_end<R: Read>(alloc: Global, input: &mut R) -> Result<Vec<u8>, StreamError>
     // These are the octets that were taken, and the input is at its end. All but `err` speak of
     // inputs whose octets are known, as those over memory.

@@ -4,7 +4,7 @@ ghost use Rattle.std.specs.Prelude.{◌≡◌, MatchResult};
 
 use crate::error::StreamError;
 
-/// The status that a program ends with: the one that its run answered, or 1 for an error.
+/// Returns the status that a program ends with: the one that its run returned, or 1 for an error.
 pub fn status_of(answered: Result<u8, StreamError>) -> u8
     ensures { MatchResult answered (λ status. result ≡ status) (λ _. result ≡ 1) }
 {

@@ -6,7 +6,12 @@ ghost use Rattle.std.specs.Io.KnownBytes.{Appends};
 use crate::error::StreamError;
 use std::io::{ErrorKind, Write};
 
-/// Writes all the octets and flushes the output. After an error a front of them may have gone out.
+/// Writes all the octets and flushes the output.
+///
+/// # Errors
+///
+/// Returns `Write` if a write takes no octet or fails, other than by an interrupt, or if the flush
+/// fails. A front of the octets may then have been written.
 pub fn write_all<W: Write>(output: &mut W, octets: &[u8]) -> Result<(), StreamError>
     // Both speak of outputs whose octets are known, as those over memory.
     ensures written { OnOk result

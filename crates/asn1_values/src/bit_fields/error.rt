@@ -12,17 +12,17 @@ pub enum WriteError {
     /// A number that is not below 2 to the power of its width.
     #[error("field {field}: the number does not fit its width")]
     Number { field: usize },
-    /// A character that its alphabet has no code for.
+    /// A character that has no code in its alphabet.
     #[error("field {field}: character {character} is not in the alphabet")]
     Character { field: usize, character: u32 },
     /// Every field fits, but the new length exceeds `usize::MAX` bits, or the fields would end
     /// after the octets that are written over.
     #[error("too many bits")]
     TooLong,
-    /// Every field fits, but there is no memory.
+    /// Every field fits, but out of memory.
     #[error("out of memory")]
     Memory,
-    /// A counted integer whose shortest octets are more than 127.
+    /// A counted integer whose shortest contents exceed 127 octets.
     #[error("field {field}: the integer is longer than 127 octets")]
     IntegerLength { field: usize },
     /// An identifier of one arc, which has no contents.
@@ -39,13 +39,13 @@ pub enum ReadError {
     /// No octets, or octets that are not the shortest of their number.
     #[error("field {field}: not a shortest integer")]
     Integer { field: usize },
-    /// Fewer bits are left than the field has; so many are missing.
+    /// Fewer bits are left than the field needs; `bits` are missing.
     #[error("field {field}: {bits} bits short")]
     Short { field: usize, bits: u128 },
     /// A number that is the code of no character of the alphabet.
     #[error("field {field}: code {code} is no character")]
     Character { field: usize, code: u32 },
-    /// No field is wrong, but there is no memory.
+    /// No field is invalid, but out of memory.
     #[error("out of memory")]
     Memory,
     /// A length octet of a counted integer that is 0 or at least 128.

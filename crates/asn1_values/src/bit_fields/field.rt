@@ -8,7 +8,8 @@ use asn1_oid::ObjectIdentifier;
 /// A field that is written, or that was read.
 #[derive(Debug, Drop)]
 pub enum Field<'a, 's> {
-    /// The `width` binary digits of a number below 2 to the power of `width`; at most 128.
+    /// The `width` binary digits of a number, most significant first. It fits if the width is at
+    /// most 128 and the number below 2 to the power of the width.
     Number {
         value: u128,
         width: usize,
@@ -24,7 +25,8 @@ pub enum Field<'a, 's> {
         character: u32,
         alphabet: CharacterAlphabet<'s>,
     },
-    /// One octet with the number of the integer's shortest octets, 1 to 127, and these octets.
+    /// An octet with the number of the integer's shortest octets, 1 to 127, followed by these
+    /// octets.
     CountedInteger(Integer),
     /// The contents of an identifier (X.690 8.19).
     Oid(ObjectIdentifier),

@@ -21,10 +21,24 @@ use super::{bits, character, counted_integer, identifier, integer, number, octet
 use asn1_bits::BitReader;
 use std::alloc::Global;
 
-/// Reads a field of each shape from the front of the reader, which is left after them. If a field
-/// is invalid, the reader is unchanged. It first allocates room for all fields; copied octets, long
-/// integers and identifiers allocate their own. `Memory` is the last error: if an allocation fails,
-/// all fields are read again, without memory.
+/// Reads a field of each shape from the front of the reader, which is left after them. It first
+/// allocates room for all fields; copied octets, long integers and identifiers allocate their own.
+///
+/// # Errors
+///
+/// The first invalid field is named, with the first reason that applies:
+///
+/// - `NumberWidth` if a width exceeds 128 bits;
+/// - `Integer` or `Identifier` if a shape has no octets;
+/// - `Length` if the length octet of a counted integer is present, but not 1 to 127;
+/// - `Short` if fewer bits are left than the field needs;
+/// - `Integer` if the octets are not the shortest of their number (X.690 8.3.2);
+/// - `Identifier` if the octets are not the contents of an identifier (X.690 8.19), otherwise `Arc`
+///   if one of its arcs exceeds `u32`;
+/// - `Character` if a number is the code of no character of the alphabet.
+///
+/// If no field is invalid, it returns `Memory` if out of memory: after a failed allocation it
+/// examines all fields again, without memory. After an error the reader is unchanged.
 pub fn read_fields<'a, 's>(
     alloc: Global,
     reader: &mut BitReader<'a>,
@@ -37,7 +51,7 @@ pub fn read_fields<'a, 's>(
     ensures only { IfOk result (λ fields. (others : List plain.Field) (rest : List Bool)
         → Begins (bits_left reader.old) (plain_shapes shapes.now) others rest
         → (plain_fields fields.items ≡ others) × (bits_left reader.new ≡ rest)) }
-    // Where any fields begin them, only memory can be wanting.
+    // If any fields begin them, the only error is `Memory`.
     ensures accepted { CanBegin (bits_left reader.old) (plain_shapes shapes.now)
         → IsOkUnless result ReadError.Memory }
     // The fields' concatenation, which is one list where no alphabet gives a character two codes,

@@ -13,21 +13,23 @@ use asn1_alphabets::CharacterAlphabet;
 pub enum Shape<'s> {
     /// A number of `width` bits.
     Number { width: usize },
-    /// So many octets.
+    /// `count` octets.
     Octets { count: usize },
-    /// So many bits.
+    /// `length` bits.
     Bits { length: usize },
-    /// An integer whose shortest octets are so many.
+    /// An integer of `octets` octets, the shortest of the number.
     Integer { octets: usize },
     /// A character of the alphabet.
     Character { alphabet: CharacterAlphabet<'s> },
     /// An integer after an octet that counts its octets.
     CountedInteger,
-    /// An identifier whose contents have so many octets.
+    /// An identifier whose contents have `octets` octets.
     Oid { octets: usize },
 }
 
-/// The shape of the field. The length of an identifier's contents fits `usize`.
+/// Returns the shape of the field.
+///
+/// The number of octets of an identifier's contents must fit `usize`.
 pub fn shape_of<'s>(field: &Field<'_, 's>) -> Shape<'s>
     // The octets of an identifier's contents are so few that their number fits `usize`.
     requires { HasShape (plain_field field.now) }

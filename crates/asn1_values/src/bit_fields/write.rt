@@ -16,9 +16,20 @@ use super::gathered::Gathered;
 use super::{bits, character, counted_integer, identifier, integer, number, octets};
 use asn1_bits::{BitAppender, BitBuffer, Turns};
 
-/// Appends the fields' bits to the buffer, one after another, in one growth. If a field does not
-/// fit, or if out of memory, the buffer's bits are unchanged; `Memory` is the last error. Codes of
-/// characters are looked up after the growth, so after an error for a character the buffer may have
+/// Appends the fields' bits to the buffer, one after another, in one growth.
+///
+/// # Errors
+///
+/// The first field that does not fit is named:
+///
+/// - `NumberWidth` if a width exceeds 128 bits, otherwise `Number` if the number does not fit it;
+/// - `Character` if a character has no code in its alphabet;
+/// - `IntegerLength` if a counted integer exceeds 127 octets;
+/// - `ArcCount` if an identifier has one arc.
+///
+/// If all fit, it returns `TooLong` if the new length exceeds `usize::MAX` bits, otherwise `Memory`
+/// if out of memory, never if no octet is added. After an error the buffer's bits are unchanged.
+/// Codes of characters are looked up after the growth, so after `Character` the buffer may have
 /// more capacity.
 pub fn write_fields(buffer: &mut BitBuffer, fields: &[Field<'_, '_>]) -> Result<(), WriteError>
     // The old bits are followed by a concatenation of the fields' encodings.
@@ -50,7 +61,13 @@ pub fn write_fields(buffer: &mut BitBuffer, fields: &[Field<'_, '_>]) -> Result<
     write_fields_counted(buffer, fields, &mut Turns::new())
 }
 
-/// `write_fields` with a counter: one turn for each word of at most 64 bits that is written.
+/// Appends the fields' bits as `write_fields` does, and counts turns: for b bits of F fields at
+/// least b / 64, rounded up, and at most b / 64 + 8 * F.
+///
+/// # Errors
+///
+/// Returns the errors of `write_fields`. After an error the buffer's bits and the turns are
+/// unchanged.
 pub fn write_fields_counted(
     buffer: &mut BitBuffer,
     fields: &[Field<'_, '_>],

@@ -13,8 +13,13 @@ use super::write::{end_after, end_or_misfit, len_or_misfit};
 use super::{bits, character, counted_integer, identifier, integer, number, octets};
 
 /// Writes the fields' bits over those of the octets from bit `position` on, one after another, and
-/// leaves every other bit. Returns the bit after them. It allocates nothing. The whole list is
-/// examined first; after an error the octets are unchanged.
+/// returns the bit after them. Every other bit is unchanged. It allocates nothing.
+///
+/// # Errors
+///
+/// The first field that does not fit is named, as by `write_fields`. If all fit, it returns
+/// `TooLong` if they end after the octets, or if the bit after them exceeds `usize::MAX`. It never
+/// returns `Memory`. After an error the octets are unchanged.
 pub fn write_fields_at(
     octets: &mut [u8],
     position: usize,
