@@ -5,6 +5,17 @@
 //! takes effect, otherwise the string's base set. It gives each character of that set a code, which
 //! is the character's index in the set or its value. A binary search finds an index in a long
 //! ascending set. No call allocates.
+//!
+//! # Examples
+//!
+//! ```
+//! use asn1_strings::{CharacterAlphabet, NumericString};
+//!
+//! let digits = CharacterAlphabet::new::<NumericString>(Some(&[0x31, 0x32, 0x33]), false);
+//! assert!(rt; digits.width() == 2);
+//! assert!(rt; digits.encode(0x33) == Ok(2));
+//! assert!(rt; digits.encode(0x34).is_err());
+//! ```
 #![tactic(auto)]
 
 mod alphabet;

@@ -97,6 +97,17 @@ impl<'a> BitReader<'a> {
     ///
     /// Returns the number of missing bits if fewer than `count` are left. The reader is then
     /// unchanged.
+    ///
+    /// # Examples
+    ///
+    /// ```
+    /// use asn1_bits::BitReader;
+    ///
+    /// let mut reader = BitReader::from_octets(&[0b1011_1001]);
+    /// let front = reader.split(3)?;
+    /// assert!(rt; front.first_u128(3) == 0b101);
+    /// assert!(rt; reader.len() == 5);
+    /// ```
     #[inline(always)]
     pub fn split(&mut self, count: usize) -> Result<BitReader<'a>, usize>
         ensures short { IsErr result ↔ ((view_left self.old).len < count) }

@@ -40,6 +40,17 @@ impl<'a> BitStr<'a> {
 
     /// Returns the `len` bits of the octets from bit `first` on, or `None` if the octets have
     /// fewer.
+    ///
+    /// # Examples
+    ///
+    /// ```
+    /// use asn1_bits::BitStr;
+    ///
+    /// let octets = [0b0101_1000];
+    /// let view = BitStr::new(&octets, 1, 4);
+    /// assert!(rt; view.is_some_and(|it| it.len() == 4));
+    /// assert!(rt; BitStr::new(&octets, 5, 4).is_none());
+    /// ```
     pub fn new(octets: &'a [u8], first: usize, len: usize) -> Option<BitStr<'a>>
         ensures none { IsNone result ↔ (8 * length octets.now < first + len) }
         ensures some { IfSome result
@@ -115,6 +126,17 @@ impl<'a> BitStr<'a> {
     /// Splits the view at bit `at`.
     ///
     /// The index must be at most the length.
+    ///
+    /// # Examples
+    ///
+    /// ```
+    /// use asn1_bits::BitStr;
+    ///
+    /// let octets = [0b1010_0001];
+    /// let (front, back) = BitStr::from_octets(&octets).split_at(3);
+    /// assert!(rt; front.len() == 3 && front.get(2));
+    /// assert!(rt; back.len() == 5 && !back.get(0));
+    /// ```
     #[inline(always)]
     pub fn split_at(&self, at: usize) -> (BitStr<'a>, BitStr<'a>)
         requires { at ≤ (view_of self.now).len }

@@ -138,6 +138,16 @@ pub fn extend_bitstring(dst: &mut BitString, src: BitStr<'_>) -> Result<(), Allo
 /// # Errors
 ///
 /// Returns `AllocError` if out of memory. An empty view is always copied.
+///
+/// # Examples
+///
+/// ```
+/// use asn1_bits::{BitStr, to_bitstring};
+///
+/// let octets = [0b0101_1000];
+/// let string = to_bitstring(rt.alloc(), BitStr::from_octets(&octets).slice(1, 4))?;
+/// assert!(rt; string.as_raw_slice() == [0b1011_0000].as_slice());
+/// ```
 pub fn to_bitstring(alloc: Global, src: BitStr<'_>) -> Result<BitString, AllocError>
     ensures list { IfOk result (λ s. s ≡ bits_of src.entry) }
     ensures len { IfOk result (λ s. length s ≡ (view_of src.entry).len) }

@@ -3,6 +3,19 @@
 //! A bit is a truth value, and octets hold their bits most significant first (X.690 8.1.3, X.691
 //! 11). Contracts model every type as a list of bits. A call that fails because it is out of memory
 //! changes nothing.
+//!
+//! # Examples
+//!
+//! ```
+//! use asn1_bits::{BitBuffer, BitReader, BitStr};
+//!
+//! let octets = [0b0101_1000];
+//! let mut buffer = BitBuffer::new(rt.alloc());
+//! buffer.push_bits(200, 8)?;
+//! buffer.extend_from_bitslice(BitStr::from_octets(&octets).slice(1, 4))?;
+//! assert!(rt; buffer.as_bytes() == [200, 0b1011_0000].as_slice());
+//! assert!(rt; BitReader::new(buffer.as_bitstr()).len() == 12);
+//! ```
 #![tactic(auto)]
 
 mod bit_appender;

@@ -69,6 +69,16 @@ pub trait IntegerType {
     /// - `Overflow` if there are more than `BYTE_WIDTH` octets; an unsigned type does not count one
     ///   leading zero octet, and an `Integer` has no such limit;
     /// - `Memory` if out of memory for an `Integer` outside `i128`.
+    ///
+    /// # Examples
+    ///
+    /// ```
+    /// use asn1_integer::IntegerType;
+    ///
+    /// let port = u16::try_from_signed_bytes(rt.alloc(), &[0, 0xFF, 0xFF])?;
+    /// assert!(rt; port == u16::MAX);
+    /// assert!(rt; u8::try_from_signed_bytes(rt.alloc(), &[0xFF]).is_err());
+    /// ```
     fn try_from_signed_bytes(alloc: Global, octets: &[u8]) -> Result<Self, IntegerError>
     where
         Self: Sized,

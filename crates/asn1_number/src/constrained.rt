@@ -8,6 +8,16 @@ use std::alloc::AllocError;
 use std::ops::Deref;
 
 /// A whole number from `START` to `END`, both included.
+///
+/// # Examples
+///
+/// ```
+/// use asn1_number::ConstrainedInteger;
+///
+/// let month = ConstrainedInteger::<1, 12>::try_from(9)?;
+/// assert!(rt; month.to_i64() == Some(9));
+/// assert!(rt; ConstrainedInteger::<1, 12>::try_from(13).is_err());
+/// ```
 #[derive(Debug, Drop, PartialEq, Eq, PartialOrd, Ord, Hash)]
 pub struct ConstrainedInteger<const START: i64, const END: i64> {
     kept: KeptInline,

@@ -4,6 +4,16 @@
 //! octets are the shortest that encode it, in two's complement or without a sign. How the integer
 //! types read octets, and which octets are shortest, are definitions in `specs/`; `specs/Laws.antt`
 //! has what follows from them.
+//!
+//! # Examples
+//!
+//! ```
+//! use asn1_number::Integer;
+//!
+//! let number = Integer::from_signed_octets(rt.alloc(), &[0xFF, 0x7F])?;
+//! assert!(rt; number.to_i64() == Some(-129));
+//! assert!(rt; Integer::from(128u8).signed_octets().as_ref() == [0, 128].as_slice());
+//! ```
 #![tactic(auto)]
 
 mod constrained;

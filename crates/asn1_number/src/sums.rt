@@ -16,6 +16,15 @@ impl Integer {
     }
 
     /// Returns the sum if it and both numbers lie within `i128`, otherwise `None`.
+    ///
+    /// # Examples
+    ///
+    /// ```
+    /// use asn1_number::Integer;
+    ///
+    /// let sum = Integer::from(i64::MAX).checked_add(&Integer::one());
+    /// assert!(rt; sum == Some(Integer::from(1i128 << 63)));
+    /// ```
     pub fn checked_add(&self, other: &Integer) -> Option<Integer>
         ensures { IsNumberOfTwo self.now other.now (self.now +ℤ other.now) result }
     {

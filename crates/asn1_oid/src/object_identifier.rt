@@ -92,6 +92,16 @@ impl ObjectIdentifier {
     ///
     /// Returns `Malformed` if the octets are the contents of no arcs, however large, otherwise
     /// `ArcTooLarge` if an arc exceeds `u32`, otherwise `Memory` if out of memory.
+    ///
+    /// # Examples
+    ///
+    /// ```
+    /// use asn1_oid::ObjectIdentifier;
+    ///
+    /// let contents: &[u8] = &[0x2A, 0x86, 0x48];
+    /// let us = ObjectIdentifier::from_contents(rt.alloc(), &contents)?;
+    /// assert!(rt; us.eq_arcs(&[1, 2, 840]));
+    /// ```
     pub fn from_contents<S: OctetSource>(
         alloc: Global,
         source: &S,
@@ -125,6 +135,16 @@ impl ObjectIdentifier {
     ///
     /// Returns `Malformed` if the text is not that of an identifier whose arcs all fit `u32`,
     /// otherwise `Memory` if out of memory.
+    ///
+    /// # Examples
+    ///
+    /// ```
+    /// use asn1_oid::ObjectIdentifier;
+    ///
+    /// let rsa = ObjectIdentifier::parse(rt.alloc(), "1.2.840.113549")?;
+    /// assert!(rt; rsa.eq_arcs(&[1, 2, 840, 113549]));
+    /// assert!(rt; ObjectIdentifier::parse(rt.alloc(), "3.1").is_err());
+    /// ```
     pub fn parse(alloc: Global, text: &str) -> Result<ObjectIdentifier, DottedTextError>
         ensures value { IfOk result (λ oid. IsDottedText oid text.now) }
         // It is the text of no other arcs.

@@ -150,6 +150,18 @@ impl<'a> OidContents<'a> {
     ///
     /// Returns `AllocError` if out of memory; the vector's octets are then unchanged. It never
     /// fails if no octets are left, or if the vector has room for five times as many as are left.
+    ///
+    /// # Examples
+    ///
+    /// ```
+    /// use asn1_oid::Oid;
+    ///
+    /// let mut octets = Vec::new(rt.alloc());
+    /// if let Some(contents) = Oid::new(&[1, 2, 840]).and_then(|it| it.contents()) {
+    ///     contents.append_to(&mut octets)?;
+    /// }
+    /// assert!(rt; octets.as_slice() == [0x2A, 0x86, 0x48].as_slice());
+    /// ```
     pub fn append_to(self, octets: &mut Vec<u8>) -> Result<(), AllocError>
         ensures ok { OnOk result (octets.new.items ≡ octets.old.items ++ self.entry) }
         ensures err { OnErr result (octets.new.items ≡ octets.old.items) }

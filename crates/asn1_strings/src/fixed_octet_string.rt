@@ -23,6 +23,16 @@ impl<const N: usize> FixedOctetString<N> {
     }
 
     /// Returns the string of these octets, or `None` if there are not `N`.
+    ///
+    /// # Examples
+    ///
+    /// ```
+    /// use asn1_strings::FixedOctetString;
+    ///
+    /// let key = FixedOctetString::<2>::try_from_slice(&[7, 8]);
+    /// assert!(rt; key.is_some_and(|it| it.into_array() == [7, 8]));
+    /// assert!(rt; FixedOctetString::<2>::try_from_slice(&[7]).is_none());
+    /// ```
     pub fn try_from_slice(octets: &[u8]) -> Option<FixedOctetString<N>>
         ensures some { IsSome result ↔ (length octets.now ≡ N) }
         ensures value { IfSome result (λ s. s.octets ≡ octets.now) }

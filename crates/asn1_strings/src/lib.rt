@@ -6,6 +6,16 @@
 //! A string is a list of characters, each in the base set of its kind (X.680 41). It is read from
 //! its contents (X.690 8.23), a text, bits or an alphabet, whole and in order, or the error names
 //! its first invalid piece. The names of `asn1_characters` and of `asn1_alphabets` are re-exported.
+//!
+//! # Examples
+//!
+//! ```
+//! use asn1_strings::{Ia5String, NumericString, StaticPermittedAlphabet};
+//!
+//! let name = Ia5String::try_from_slice(rt.alloc(), b"value")?;
+//! assert!(rt; name.len() == 5);
+//! assert!(rt; NumericString::try_from_slice(rt.alloc(), b"value").is_err());
+//! ```
 #![tactic(auto)]
 
 mod bmp_string;

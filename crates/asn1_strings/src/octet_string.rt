@@ -35,6 +35,15 @@ impl OctetString {
     /// # Errors
     ///
     /// Returns `AllocError` if out of memory. An empty slice never fails.
+    ///
+    /// # Examples
+    ///
+    /// ```
+    /// use asn1_strings::OctetString;
+    ///
+    /// let string = OctetString::from_slice(rt.alloc(), &[1, 2, 3])?;
+    /// assert!(rt; string.as_ref() == [1, 2, 3].as_slice());
+    /// ```
     pub fn from_slice(alloc: Global, octets: &[u8]) -> Result<OctetString, AllocError>
         ensures octets { IfOk result (λ s. s ≡ octets.now) }
         ensures memory { OnErr result (octets.now ≢ []) }

@@ -39,6 +39,18 @@ use std::alloc::Global;
 ///
 /// If no field is invalid, it returns `Memory` if out of memory: after a failed allocation it
 /// examines all fields again, without memory. After an error the reader is unchanged.
+///
+/// # Examples
+///
+/// ```
+/// use asn1_values::{BitReader, Field, Shape, read_fields};
+///
+/// let mut reader = BitReader::from_octets(&[0b1011_1001, 0]);
+/// let shapes = [Shape::Number { width: 3 }, Shape::Number { width: 8 }];
+/// let fields = read_fields(rt.alloc(), &mut reader, &shapes)?;
+/// assert!(rt; matches!(fields.get(1), Some(Field::Number { value: 200, width: 8 })));
+/// assert!(rt; reader.len() == 5);
+/// ```
 pub fn read_fields<'a, 's>(
     alloc: Global,
     reader: &mut BitReader<'a>,

@@ -31,6 +31,18 @@ use asn1_bits::{BitAppender, BitBuffer, Turns};
 /// if out of memory, never if no octet is added. After an error the buffer's bits are unchanged.
 /// Codes of characters are looked up after the growth, so after `Character` the buffer may have
 /// more capacity.
+///
+/// # Examples
+///
+/// ```
+/// use asn1_values::{BitBuffer, Field, write_fields};
+///
+/// let mut buffer = BitBuffer::new(rt.alloc());
+/// let version = Field::Number { value: 5, width: 3 };
+/// let length = Field::Number { value: 200, width: 8 };
+/// write_fields(&mut buffer, &[version, length])?;
+/// assert!(rt; buffer.as_bytes() == [0b1011_1001, 0].as_slice());
+/// ```
 pub fn write_fields(buffer: &mut BitBuffer, fields: &[Field<'_, '_>]) -> Result<(), WriteError>
     // The old bits are followed by a concatenation of the fields' encodings.
     ensures written { OnOk result ((list : List Bool) × AreSpelledBy (plain_fields fields.now) list

@@ -20,6 +20,16 @@ use super::{bits, character, counted_integer, identifier, integer, number, octet
 /// The first field that does not fit is named, as by `write_fields`. If all fit, it returns
 /// `TooLong` if they end after the octets, or if the bit after them exceeds `usize::MAX`. It never
 /// returns `Memory`. After an error the octets are unchanged.
+///
+/// # Examples
+///
+/// ```
+/// use asn1_values::{Field, write_fields_at};
+///
+/// let mut octets = [0xFF, 0xFF];
+/// let end = write_fields_at(&mut octets, 4, &[Field::Number { value: 1, width: 8 }])?;
+/// assert!(rt; end == 12 && octets == [0xF0, 0x1F]);
+/// ```
 pub fn write_fields_at(
     octets: &mut [u8],
     position: usize,
