@@ -8,7 +8,7 @@ use asn1_schema::{Part, Tables};
 use asn1_schema_values::{Names, end_of, laws_of_extents};
 use std::alloc::Global;
 
-/// A value, as an encoder takes it.
+/// A value, in the form that an encoder takes.
 #[derive(Debug, Drop)]
 pub struct Built {
     /// Its parts.
@@ -17,10 +17,11 @@ pub struct Built {
     pub octets: Vec<u8>,
 }
 
-/// A value of a type of some tables that is being built: its parts, in the order of the type's text.
+/// A value that is being built, of a type of some tables: its parts, in the order of the type's
+/// text.
 ///
-/// A call that returns an error changes nothing. That the value meets the constraints of its type is
-/// left to an encoder.
+/// A call that returns an error changes nothing. The builder does not check the constraints of the
+/// type; an encoder does.
 #[derive(Drop)]
 pub struct Builder<'s> {
     pub(crate) alloc: Global,
@@ -40,7 +41,7 @@ impl<'s> Builder<'s> {
     ghost use Rattle.asn1_builder.specs.declared.error.BuildError.TheVariants.{Unfinished};
     ghost use Rattle.asn1_builder.specs.Drafts.{draft_of, Draft};
 
-    /// Returns a builder of a value of the type at a node. It has no parts yet.
+    /// Returns a builder of a value of the type at a node, without parts.
     pub fn new(alloc: Global, tables: Tables<'s>, names: Names<'s>, node: usize) -> Builder<'s>
         ensures { draft_of result ≡ record {
           tables = tables.entry;
@@ -62,11 +63,12 @@ impl<'s> Builder<'s> {
         }
     }
 
-    /// Returns the value, once it is complete. It goes over its parts once.
+    /// Returns the value if it is complete. It reads the parts once.
     ///
     /// # Errors
     ///
-    /// Returns [`BuildError::Unfinished`] if the value has no parts yet, or is not ended.
+    /// Returns [`BuildError::Unfinished`] if a value was begun that is not ended, or if the parts
+    /// are not one whole value.
     pub fn finish(self) -> Result<Built, BuildError>
         ensures value { MatchResult result (λ v. (v.parts.items ≡ (draft_of self.entry).parts)
             × (v.octets.items ≡ (draft_of self.entry).octets) × ((draft_of self.entry).frames ≡ [])

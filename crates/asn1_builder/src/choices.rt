@@ -23,12 +23,15 @@ impl<'s> Builder<'s> {
         Ok(())
     }
 
-    /// Chooses an alternative of a CHOICE, whose value comes next.
+    /// Chooses an alternative of a CHOICE. Its value comes next.
     ///
     /// # Errors
     ///
-    /// Returns an error if no CHOICE may come next, if it has no such alternative, if the tables have no
-    /// such row, or out of memory.
+    /// Returns [`BuildError::NoValue`] if no value may come next, [`BuildError::NoNode`] if the tables
+    /// do not have its type, [`BuildError::OtherType`] if the next value is no CHOICE,
+    /// [`BuildError::NoComponent`] if it has no alternative with this name, [`BuildError::NoNode`] if
+    /// the tables have no such row, or [`BuildError::Memory`] if out of memory. Nothing has changed
+    /// then.
     pub fn alternative(&mut self, name: &str) -> Result<(), BuildError>
         ensures { MatchResult result
             (λ _. Chooses (draft_of self.old) name.now (draft_of self.new))

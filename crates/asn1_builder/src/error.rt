@@ -2,7 +2,7 @@
 
 use thiserror::Error;
 
-/// Why a call of a builder is rejected.
+/// Why a builder rejects a call.
 #[derive(Clone, Copy, Debug, PartialEq, Eq, Error)]
 pub enum BuildError {
     /// No value may come next: a component must be named first, or the value is complete.

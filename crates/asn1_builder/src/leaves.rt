@@ -86,7 +86,9 @@ impl<'s> Builder<'s> {
     ///
     /// # Errors
     ///
-    /// Returns an error if no NULL may come next, or out of memory.
+    /// Returns [`BuildError::NoValue`] if no value may come next, [`BuildError::NoNode`] if the tables do not
+    /// have its type, [`BuildError::OtherType`] if the next value is no NULL, or [`BuildError::Memory`] if out
+    /// of memory. Nothing has changed then.
     pub fn null(&mut self) -> Result<(), BuildError>
         ensures { IsStep (leaf kind.Null part.Null (draft_of self.old)) result
             (draft_of self.old) (draft_of self.new) }
@@ -98,7 +100,9 @@ impl<'s> Builder<'s> {
     ///
     /// # Errors
     ///
-    /// Returns an error if no BOOLEAN may come next, or out of memory.
+    /// Returns [`BuildError::NoValue`] if no value may come next, [`BuildError::NoNode`] if the tables do not
+    /// have its type, [`BuildError::OtherType`] if the next value is no BOOLEAN, or [`BuildError::Memory`] if
+    /// out of memory. Nothing has changed then.
     pub fn boolean(&mut self, value: bool) -> Result<(), BuildError>
         ensures { IsStep (leaf kind.Boolean (part.Truth value) (draft_of self.old)) result
             (draft_of self.old) (draft_of self.new) }
@@ -110,7 +114,9 @@ impl<'s> Builder<'s> {
     ///
     /// # Errors
     ///
-    /// Returns an error if no INTEGER may come next, or out of memory.
+    /// Returns [`BuildError::NoValue`] if no value may come next, [`BuildError::NoNode`] if the tables do not
+    /// have its type, [`BuildError::OtherType`] if the next value is no INTEGER, or [`BuildError::Memory`] if
+    /// out of memory. Nothing has changed then.
     pub fn integer(&mut self, value: i128) -> Result<(), BuildError>
         ensures { IsStep (leaf kind.Integer (part.Integer value) (draft_of self.old)) result
             (draft_of self.old) (draft_of self.new) }
@@ -118,12 +124,14 @@ impl<'s> Builder<'s> {
         self.leaf(Kind::Integer, Part::Integer(value))
     }
 
-    /// Appends a value of an ENUMERATED, by its index in the type's table: the values of its root in
-    /// ascending order of their numbers, and then its additions.
+    /// Appends a value of an ENUMERATED, by its index in the type's table: the values of its root in ascending
+    /// order of their numbers, and then its additions.
     ///
     /// # Errors
     ///
-    /// Returns an error if no ENUMERATED may come next, or out of memory.
+    /// Returns [`BuildError::NoValue`] if no value may come next, [`BuildError::NoNode`] if the tables do not
+    /// have its type, [`BuildError::OtherType`] if the next value is no ENUMERATED, or [`BuildError::Memory`]
+    /// if out of memory. Nothing has changed then.
     pub fn enumerated(&mut self, index: usize) -> Result<(), BuildError>
         ensures { IsStep (leaf kind.Enumerated (part.Enumerated index) (draft_of self.old)) result
             (draft_of self.old) (draft_of self.new) }
@@ -131,11 +139,15 @@ impl<'s> Builder<'s> {
         self.leaf(Kind::Enumerated, Part::Enumerated(index))
     }
 
-    /// Appends an OCTET STRING. An open type that objects tell is one too, of an encoding of its value.
+    /// Appends an OCTET STRING. The value of an open type that depends on other components is one too: an
+    /// encoding of its contents.
     ///
     /// # Errors
     ///
-    /// Returns an error if no OCTET STRING may come next, if there are too many octets, or out of memory.
+    /// Returns [`BuildError::NoValue`] if no value may come next, [`BuildError::NoNode`] if the tables do not
+    /// have its type, [`BuildError::OtherType`] if the next value is no OCTET STRING, [`BuildError::TooLong`]
+    /// if the whole value would have 2^61 octets or more, or [`BuildError::Memory`] if out of memory. Nothing
+    /// has changed then.
     pub fn octets(&mut self, octets: &[u8]) -> Result<(), BuildError>
         ensures { IsStep (octet_string kind.Octets octets.now (draft_of self.old)) result
             (draft_of self.old) (draft_of self.new) }
@@ -147,7 +159,10 @@ impl<'s> Builder<'s> {
     ///
     /// # Errors
     ///
-    /// Returns an error if no OBJECT IDENTIFIER may come next, if there are too many octets, or out of memory.
+    /// Returns [`BuildError::NoValue`] if no value may come next, [`BuildError::NoNode`] if the tables do not
+    /// have its type, [`BuildError::OtherType`] if the next value is no OBJECT IDENTIFIER,
+    /// [`BuildError::TooLong`] if the whole value would have 2^61 octets or more, or [`BuildError::Memory`] if
+    /// out of memory. Nothing has changed then.
     pub fn object_identifier(&mut self, octets: &[u8]) -> Result<(), BuildError>
         ensures { IsStep (octet_string kind.ObjectIdentifier octets.now (draft_of self.old)) result
             (draft_of self.old) (draft_of self.new) }
@@ -159,7 +174,10 @@ impl<'s> Builder<'s> {
     ///
     /// # Errors
     ///
-    /// Returns an error if no RELATIVE-OID may come next, if there are too many octets, or out of memory.
+    /// Returns [`BuildError::NoValue`] if no value may come next, [`BuildError::NoNode`] if the tables do not
+    /// have its type, [`BuildError::OtherType`] if the next value is no RELATIVE-OID, [`BuildError::TooLong`]
+    /// if the whole value would have 2^61 octets or more, or [`BuildError::Memory`] if out of memory. Nothing
+    /// has changed then.
     pub fn relative_identifier(&mut self, octets: &[u8]) -> Result<(), BuildError>
         ensures { IsStep (octet_string kind.RelativeIdentifier octets.now (draft_of self.old)) result
             (draft_of self.old) (draft_of self.new) }
@@ -171,7 +189,10 @@ impl<'s> Builder<'s> {
     ///
     /// # Errors
     ///
-    /// Returns an error if no REAL may come next, if there are too many octets, or out of memory.
+    /// Returns [`BuildError::NoValue`] if no value may come next, [`BuildError::NoNode`] if the tables do not
+    /// have its type, [`BuildError::OtherType`] if the next value is no REAL, [`BuildError::TooLong`] if the
+    /// whole value would have 2^61 octets or more, or [`BuildError::Memory`] if out of memory. Nothing has
+    /// changed then.
     pub fn real(&mut self, octets: &[u8]) -> Result<(), BuildError>
         ensures { IsStep (octet_string kind.Real octets.now (draft_of self.old)) result
             (draft_of self.old) (draft_of self.new) }
@@ -179,12 +200,14 @@ impl<'s> Builder<'s> {
         self.octet_string(Kind::Real, octets)
     }
 
-    /// Appends an INTEGER of a type without bounds, by the octets of its two's complement (X.690 8.3).
+    /// Appends an INTEGER of a type without a lower bound, by the octets of its two's complement (X.690 8.3).
     ///
     /// # Errors
     ///
-    /// Returns an error if no such INTEGER may come next, if there are too many octets, or out of
-    /// memory.
+    /// Returns [`BuildError::NoValue`] if no value may come next, [`BuildError::NoNode`] if the tables do not
+    /// have its type, [`BuildError::OtherType`] if the next value is no such INTEGER, [`BuildError::TooLong`]
+    /// if the whole value would have 2^61 octets or more, or [`BuildError::Memory`] if out of memory. Nothing
+    /// has changed then.
     pub fn signed_octets(&mut self, octets: &[u8]) -> Result<(), BuildError>
         ensures { IsStep (octet_string kind.Unbounded octets.now (draft_of self.old)) result
             (draft_of self.old) (draft_of self.new) }
@@ -192,13 +215,18 @@ impl<'s> Builder<'s> {
         self.octet_string(Kind::Unbounded, octets)
     }
 
-    /// Appends a BIT STRING: the first bits of octets, so many. Of a type whose bits have names, the
-    /// last bit is 1, or there are no more bits than the type asks for.
+    /// Appends a BIT STRING: the first `count` bits of octets.
+    ///
+    /// If the bits of the type have names, an encoder rejects zeros at the end that the size of the type does
+    /// not require.
     ///
     /// # Errors
     ///
-    /// Returns an error if no BIT STRING may come next, if there are fewer or too many octets, or out
-    /// of memory.
+    /// Returns [`BuildError::TooShort`] if the octets have fewer than `count` bits, [`BuildError::NoValue`] if
+    /// no value may come next, [`BuildError::NoNode`] if the tables do not have its type,
+    /// [`BuildError::OtherType`] if the next value is no BIT STRING, [`BuildError::TooLong`] if the whole
+    /// value would have 2^61 octets or more, or [`BuildError::Memory`] if out of memory. Nothing has changed
+    /// then.
     pub fn bits(&mut self, octets: &[u8], count: usize) -> Result<(), BuildError>
         ensures { IsStep (bit_string count octets.now (draft_of self.old)) result
             (draft_of self.old) (draft_of self.new) }

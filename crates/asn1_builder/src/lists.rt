@@ -24,11 +24,14 @@ fn phase_count(of: &Components) -> usize
 }
 
 impl<'s> Builder<'s> {
-    /// Begins a SEQUENCE, a SET, a SEQUENCE OF or a SET OF. The values of a list follow one another.
+    /// Begins a SEQUENCE, a SET, a SEQUENCE OF or a SET OF. The items of a list are the values that
+    /// come next.
     ///
     /// # Errors
     ///
-    /// Returns an error if no such value may come next, or out of memory.
+    /// Returns [`BuildError::NoValue`] if no value may come next, [`BuildError::NoNode`] if the tables
+    /// do not have its type, [`BuildError::OtherType`] if the next value is no such value, or
+    /// [`BuildError::Memory`] if out of memory. Nothing has changed then.
     pub fn begin(&mut self) -> Result<(), BuildError>
         ensures { IsStep (begun (draft_of self.old)) result (draft_of self.old) (draft_of self.new) }
     {
@@ -106,13 +109,15 @@ impl<'s> Builder<'s> {
         Ok(())
     }
 
-    /// Ends the value that was begun last. Components that were not named are absent. It goes over the
+    /// Ends the value that was begun last. Components that were not named are absent. It reads the
     /// parts of a list once.
     ///
     /// # Errors
     ///
-    /// Returns an error if no value was begun, if one inside it is not finished, if a mandatory
-    /// component has no value, or out of memory.
+    /// Returns [`BuildError::NotBegun`] if no value was begun that is not ended,
+    /// [`BuildError::Unfinished`] if a value inside it is not finished, [`BuildError::Mandatory`] if a
+    /// mandatory component of the root was not named, or [`BuildError::Memory`] if out of memory.
+    /// Nothing has changed then.
     pub fn end(&mut self) -> Result<(), BuildError>
         ensures { MatchResult result
             (λ _. Ends (draft_of self.old) (draft_of self.new))

@@ -181,16 +181,19 @@ impl<'s> Builder<'s> {
         Ok(of)
     }
 
-    /// Names the component of the SEQUENCE or SET that was begun last, whose value comes next.
+    /// Names the component of the SEQUENCE or SET that was begun last. Its value comes next.
     ///
     /// Components come in the order of the type, those of a SET in the canonical order of their tags.
     /// Those that are skipped are absent: they are OPTIONAL, have a DEFAULT, or are additions.
     ///
     /// # Errors
     ///
-    /// Returns an error if no SEQUENCE or SET was begun last, if a value of it is not finished, if it has
-    /// no such component or this was named or skipped, if a mandatory component would be skipped, if the
-    /// tables have no such row, or out of memory.
+    /// Returns [`BuildError::NoSequence`] if the value that was begun last is no SEQUENCE or SET,
+    /// [`BuildError::Unfinished`] if the component that was named last has no value yet,
+    /// [`BuildError::NoComponent`] if the type has no component with this name, [`BuildError::Passed`] if
+    /// this component or a later one was named, [`BuildError::Mandatory`] if a mandatory component would
+    /// be skipped, [`BuildError::NoNode`] if the tables have no such row, or [`BuildError::Memory`] if out
+    /// of memory. Nothing has changed then.
     pub fn component(&mut self, name: &str) -> Result<(), BuildError>
         ensures { MatchResult result
             (λ _. NamesComponent (draft_of self.old) name.now (draft_of self.new))
@@ -206,13 +209,14 @@ impl<'s> Builder<'s> {
         }
     }
 
-    /// Tells the component of the SEQUENCE or SET that was begun last by its index, as [`Self::component`]
-    /// does by its name: from 0 on those of the root, and then the additions. An addition group has no
-    /// name; it is one addition, a SEQUENCE.
+    /// Selects a component of the SEQUENCE or SET that was begun last, as [`Self::component`] does, by its
+    /// index: from 0 on those of the root, and then the additions. An addition group has no name; it is
+    /// one addition, a SEQUENCE.
     ///
     /// # Errors
     ///
-    /// Returns the errors of [`Self::component`].
+    /// Returns the errors of [`Self::component`] in the same order, and [`BuildError::NoComponent`] if the
+    /// type has no component at this index. Nothing has changed then.
     pub fn component_at(&mut self, index: usize) -> Result<(), BuildError>
         ensures { MatchResult result
             (λ _. IndexesComponent (draft_of self.old) index (draft_of self.new))

@@ -57,13 +57,15 @@ impl<'s> Builder<'s> {
         self.put(part, octets.as_slice())
     }
 
-    /// Appends a string of characters: a UTF8String, or of a type whose alphabet is known, as
-    /// VisibleString and BMPString.
+    /// Appends a string of characters: a UTF8String, or a value of a type whose alphabet is known,
+    /// such as VisibleString and BMPString.
     ///
     /// # Errors
     ///
-    /// Returns an error if no such string may come next, if there are too many octets, or out of
-    /// memory.
+    /// Returns [`BuildError::NoValue`] if no value may come next, [`BuildError::NoNode`] if the
+    /// tables do not have its type, [`BuildError::OtherType`] if the next value is no such string,
+    /// [`BuildError::TooLong`] if the whole value would have 2^61 octets or more, or
+    /// [`BuildError::Memory`] if out of memory. Nothing has changed then.
     pub fn text(&mut self, text: &str) -> Result<(), BuildError>
         ensures { IsStep (any_text text.now (draft_of self.old)) result
             (draft_of self.old) (draft_of self.new) }
@@ -78,7 +80,10 @@ impl<'s> Builder<'s> {
     ///
     /// # Errors
     ///
-    /// Returns an error if no time may come next, if there are too many octets, or out of memory.
+    /// Returns [`BuildError::NoValue`] if no value may come next, [`BuildError::NoNode`] if the
+    /// tables do not have its type, [`BuildError::OtherType`] if the next value is no time,
+    /// [`BuildError::TooLong`] if the whole value would have 2^61 octets or more, or
+    /// [`BuildError::Memory`] if out of memory. Nothing has changed then.
     pub fn time(&mut self, text: &str) -> Result<(), BuildError>
         ensures { IsStep (text_of kind.Time (chars text.now) (draft_of self.old)) result
             (draft_of self.old) (draft_of self.new) }

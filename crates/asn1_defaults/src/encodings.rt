@@ -85,12 +85,13 @@ pub struct DefaultEncodings {
 }
 
 impl DefaultEncodings {
-    /// Makes the encodings of the default values of the types that the type at a node leads to. The
-    /// other default values have no encodings.
+    /// Encodes the default values of the types to which the type at a node leads. The other default
+    /// values have no encodings.
     ///
     /// # Errors
     ///
-    /// Returns the first default value that is not read, or `Memory`.
+    /// Returns [`DefaultError::Unsupported`] for the first default value that has no encoding, or
+    /// [`DefaultError::Memory`] if out of memory.
     pub fn new(
         alloc: Global,
         schema: &Schema,
@@ -114,7 +115,7 @@ impl DefaultEncodings {
         Ok(encodings)
     }
 
-    /// Returns the encodings, as decoders and encoders take them.
+    /// Returns the encodings, in the form that decoders and encoders take.
     pub fn defaults(&self) -> Defaults<'_> {
         Defaults {
             octets: self.octets.as_slice(),

@@ -38,7 +38,14 @@ struct Work {
     left: usize,
 }
 
-/// Returns what the constraints of a type permit, through names.
+/// Returns what the constraints of a type permit (X.691 10.3), with those of the types that it refers
+/// to.
+///
+/// # Errors
+///
+/// Returns the first error: that of a name or a number, [`Problem::Expected`] for a value of another
+/// kind, [`Problem::Unsupported`] for a FROM with characters outside of ASCII, [`Problem::Empty`] for
+/// a constraint that permits nothing, or [`Problem::Circular`] if the definitions do not end.
 pub fn permitted_by(scope: Scope<'_>, place: Place) -> Result<Permitted, NotationError> {
     let mut work = Work { left: MAX_WORK };
     scope.permitted(place, &mut work, MAX_STEPS)

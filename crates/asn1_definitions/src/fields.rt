@@ -3,7 +3,7 @@
 use crate::scope::{Inside, MAX_STEPS, Place, Scope};
 use asn1_notation::{Entry, Item, NotationError, Problem, Word, wide};
 
-/// What a field of a class is, where it is used as a type (X.681 14).
+/// What a field of a class is as a type (X.681 14).
 #[derive(Clone, Copy, Debug, PartialEq, Eq)]
 pub enum Field {
     /// A field of types: an open type.
@@ -18,8 +18,14 @@ pub enum Field {
 const OTHER_NOTATION: Problem = Problem::Expected("what the notation of the class has here");
 
 impl<'r> Scope<'r> {
-    /// Returns the class that the name of a class or a field of a class has, through names. That of a set of
-    /// objects is its class (X.681 15).
+    /// Returns the class of a name of a class or of a field of a class, through names. The class of a set of
+    /// objects is that of its objects (X.681 15).
+    ///
+    /// # Errors
+    ///
+    /// Returns [`Problem::Consequence`] if the definition of the class has an error, [`Problem::NotA`] if
+    /// the name is not that of a class, the error of a name on the way, or [`Problem::Circular`] if the
+    /// names do not end.
     pub fn class_of(self, place: Place) -> Result<Place, NotationError> {
         let mut found = place;
         for _ in 0..MAX_STEPS {
@@ -47,7 +53,7 @@ impl<'r> Scope<'r> {
         }
     }
 
-    /// Returns the name of the field of an entry that is a type by the field of a class.
+    /// Returns the name of the field of a type that is a field of a class.
     pub fn field_name(self, place: Place) -> Place {
         self.find_in(place, Item::FieldName).unwrap_or(place)
     }
@@ -71,7 +77,12 @@ impl<'r> Scope<'r> {
             .ok_or(self.error(Problem::Undefined, name))
     }
 
-    /// Returns what the field of a class is.
+    /// Returns what the field of a class is as a type.
+    ///
+    /// # Errors
+    ///
+    /// Returns the errors of [`Self::class_of`], [`Problem::Undefined`] if the class has no field with this
+    /// name, or [`Problem::Unsupported`] if the type of the field is another field (X.681 9.8).
     pub fn field_of(self, place: Place) -> Result<Field, NotationError> {
         let mut name = self.field_name(place);
         if self.is_builtin(place) {
@@ -102,6 +113,11 @@ impl<'r> Scope<'r> {
     }
 
     /// Returns whether a type is a field of a class that is UNIQUE (X.681 9.8).
+    ///
+    /// # Errors
+    ///
+    /// Returns the errors of [`Self::class_of`], or [`Problem::Undefined`] if the class has no field with
+    /// this name.
     pub fn is_unique(self, place: Place) -> Result<bool, NotationError> {
         if self.is_builtin(place) {
             return Ok(true);
@@ -119,7 +135,7 @@ impl<'r> Scope<'r> {
         self.entry(place.index).word == Some(Word::TypeIdentifier)
     }
 
-    /// Returns whether a type is a field of types.
+    /// Returns whether a type is a field of types, and so an open type.
     pub fn is_open(self, place: Place) -> bool {
         self.item(place) == Item::FieldType && self.field_of(place) == Ok(Field::Open)
     }
@@ -266,12 +282,12 @@ impl<'r> Scope<'r> {
         }
     }
 
-    /// Returns what an object of a class says of a field: the entry of its value, type, object or set.
-    /// `None` if it says nothing, and the field has no DEFAULT.
+    /// Returns the entry of a field in an object of a class: its value, type, object or set. `None` if the
+    /// object does not set the field, and the field has no DEFAULT.
     ///
     /// # Errors
     ///
-    /// Returns an error if the object is not as the notation of its class.
+    /// Returns [`Problem::Expected`] if the object does not have the notation of its class.
     pub fn setting(
         self,
         class: Place,
@@ -297,7 +313,11 @@ impl<'r> Scope<'r> {
         }
     }
 
-    /// Returns an error if an object is not as the notation of its class.
+    /// Checks that an object has the notation of its class.
+    ///
+    /// # Errors
+    ///
+    /// Returns [`Problem::Expected`] if the object does not have the notation of its class.
     pub fn check_object(self, class: Place, object: Place) -> Result<(), NotationError> {
         if self.is_builtin(class) {
             return Ok(());
@@ -310,6 +330,12 @@ impl<'r> Scope<'r> {
     }
 
     /// Returns the braces of an object or of a set of objects, through names and fields of objects.
+    ///
+    /// # Errors
+    ///
+    /// Returns [`Problem::Consequence`] if the definition has an error, [`Problem::NotA`] if a name is not
+    /// that of an object or a set, the error of a name or of a field on the way, or [`Problem::Circular`] if
+    /// the names do not end.
     pub fn braces_of(self, place: Place) -> Result<Place, NotationError> {
         let mut found = place;
         for _ in 0..MAX_STEPS {

@@ -25,8 +25,14 @@ impl<'r> Scope<'r> {
         }
     }
 
-    /// Returns what a field of an object is: the entry of its type, value, object or set. Each field but the
+    /// Returns the entry of a field of an object: its type, value, object or set (X.681 15). Each field but the
     /// last one must be an object.
+    ///
+    /// # Errors
+    ///
+    /// Returns [`Problem::NotA`] if the name is not that of an object, the error of its class or of a name on
+    /// the way, [`Problem::Expected`] if an object does not have the notation of its class, or
+    /// [`Problem::Undefined`] if an object does not set the field.
     pub fn from_object(self, place: Place) -> Result<Place, NotationError> {
         let (mut class, mut found) = self.named_object(place)?;
         let mut inside = self.inside(place);

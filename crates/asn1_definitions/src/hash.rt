@@ -1,9 +1,9 @@
 //! The hash of names.
 
-/// How many lists of definitions and imports there are.
+/// The number of lists of definitions and imports.
 pub const LISTS: usize = 1024;
 
-/// Returns the hash of a name, as FNV-1a has it.
+/// Returns the FNV-1a hash of a name.
 pub fn hash_of(name: &[u8]) -> u64 {
     let mut hash = 0xCBF2_9CE4_8422_2325_u64;
     for octet in name {

@@ -22,7 +22,12 @@ fn put_in_list(
     Ok(link)
 }
 
-/// Puts each definition and each import in the list of its name.
+/// Puts each definition and each import into the list of its name.
+///
+/// # Errors
+///
+/// Returns [`Problem::Duplicate`] at the first module whose name an earlier module has, or the first
+/// definition whose name an earlier one of its module has.
 pub fn index_definitions(
     text: &[u8],
     tape: &mut [Entry],
@@ -137,8 +142,14 @@ fn set_link(tape: &mut [Entry], index: usize, link: u32) {
     }
 }
 
-/// Numbers the types that have nodes of their own, from 1 on in the text itself and in each parameterized
-/// definition, and returns how many nodes all instances have. The types of values have none.
+/// Numbers the types that have nodes of their own, and returns how many nodes all instances have.
+///
+/// The numbers begin at 1 in the text itself and in each parameterized definition. The types of values have
+/// none.
+///
+/// # Errors
+///
+/// Returns the error of the first type whose base is not found, as [`Scope::base`] does.
 pub fn number_types(
     text: &[u8],
     tape: &mut [Entry],
@@ -224,8 +235,14 @@ fn has_node(scope: Scope<'_>, place: Place) -> Result<bool, NotationError> {
     })
 }
 
-/// Returns an error if a name is imported that its module does not define or export, or that is also
-/// defined here.
+/// Checks the names that modules import.
+///
+/// # Errors
+///
+/// Returns [`Problem::UnknownModule`] if the text does not have the module, [`Problem::Undefined`] if the
+/// module does not define the name, [`Problem::NotExported`] if it does not export the name (X.680 13.8),
+/// or [`Problem::Duplicate`] if the importing module also defines the name: the first of them in the order
+/// of the text.
 pub fn check_imports(scope: Scope<'_>) -> Result<(), NotationError> {
     let mut module = 0usize;
     for index in 0..scope.most() {

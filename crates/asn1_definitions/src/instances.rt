@@ -3,7 +3,7 @@
 use crate::scope::{Place, Scope};
 use asn1_notation::{Entry, Item, NotationError, Problem, Sink, error_at, wide};
 
-/// How many instances the types of a text may have.
+/// The most instances that the types of a text may have.
 pub const MAX_INSTANCES: usize = 1 << 14;
 
 /// How deep the uses of parameterized types may be nested.
@@ -23,7 +23,7 @@ pub struct Instance {
     pub first_inner: usize,
 }
 
-/// What is an error where it is used.
+/// The name of the unsupported parameterized definitions, for errors.
 pub const PARAMETERIZED: &str =
     "a parameterized object, or a set whose name has no small letter (X.683 8.2)";
 
@@ -33,7 +33,7 @@ const TEXT: Place = Place {
     instance: 0,
 };
 
-/// The text itself.
+/// The instance that is the text itself.
 pub const NO_INSTANCE: Instance = Instance {
     definition: TEXT,
     arguments: TEXT,
@@ -51,8 +51,7 @@ pub struct Walk {
 impl Walk {
     /// Returns the next entry. `None` if there is none.
     ///
-    /// The entries of a parameterized definition belong to its instances: in the text itself it is followed
-    /// by the next one.
+    /// In the text itself it skips the entries inside parameterized definitions, which belong to their instances.
     pub fn next(&mut self, scope: Scope<'_>) -> Option<Place> {
         if self.end <= self.place.index {
             return None;
@@ -81,7 +80,7 @@ fn end_of_parameters(tape: &[Entry], definition: usize) -> Option<usize> {
 }
 
 impl<'r> Scope<'r> {
-    /// Returns an instance. It is the text itself if there is none with this index.
+    /// Returns the instance at an index, or the text itself if there is none.
     pub fn instance(self, index: usize) -> Instance {
         match self.instances.get(index) {
             Some(instance) => *instance,
@@ -144,7 +143,7 @@ impl<'r> Scope<'r> {
         }
     }
 
-    /// Returns the parameter that a name is, and its argument. `None` if it is none.
+    /// Returns the parameter with a name, and its argument. `None` if the name is not that of a parameter.
     pub fn argument(self, name: Place) -> Option<(Place, Place)> {
         if name.instance == 0 {
             return None;
@@ -270,15 +269,17 @@ fn number_arguments(tape: &mut [Entry]) {
     }
 }
 
-/// Finds the instances of the parameterized types of a text: first the text itself, and then those that
-/// each instance uses, in the order of the text.
+/// Finds the instances of the parameterized types of a text: first the text itself, and then those that each
+/// instance uses, in the order of the text.
 ///
-/// Where the room of `instances` is too small, it has the first ones, and counts no more than those that
-/// they use.
+/// If `instances` has too little room, it has the first ones, and counts only those that they use.
 ///
 /// # Errors
 ///
-/// Returns the first problem that is found.
+/// Returns the first error of a use of a parameterized type: the error of its name, [`Problem::Consequence`] if its
+/// definition has an error, [`Problem::Arguments`] if it has more or fewer arguments than parameters,
+/// [`Problem::Unsupported`] for a use that is not supported, [`Problem::TooDeep`] if uses are nested too deep, or
+/// [`Problem::TooMuchWork`] if there would be more than [`MAX_INSTANCES`].
 pub fn find_instances(
     text: &[u8],
     tape: &mut [Entry],

@@ -1,5 +1,5 @@
-//! What the definitions of modules say (X.680): what names refer to, the numbers that values are, what
-//! constraints permit, and tags. Nothing is allocated.
+//! The meaning of the definitions of modules (X.680): what names refer to, the numbers that values
+//! are, what constraints permit, and tags. It does not allocate.
 #![tactic(auto)]
 
 mod characters;

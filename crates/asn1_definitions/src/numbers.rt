@@ -23,8 +23,14 @@ impl<'r> Scope<'r> {
         }
     }
 
-    /// Returns the number that a value is, through names. The names of numbers that the INTEGER
-    /// `governor` has are looked up first (X.680 19).
+    /// Returns the number of a value, through names. The named numbers of `governor`, an INTEGER, are looked
+    /// up first (X.680 19).
+    ///
+    /// # Errors
+    ///
+    /// Returns [`Problem::TooLarge`] if the number is too large, [`Problem::Consequence`] if a definition has
+    /// an error, [`Problem::Expected`] if the value is no number, the error of a name on the way, or
+    /// [`Problem::Circular`] if the names do not end.
     pub fn number(self, place: Place, governor: Option<Place>) -> Result<i128, NotationError> {
         let mut found = place;
         let mut governor = governor;
@@ -62,7 +68,12 @@ impl<'r> Scope<'r> {
         self.value_in(self.named_in(governor, Item::Name, name)?)
     }
 
-    /// Returns the string or the braces that a value of characters is, through names.
+    /// Returns the string or the braces of a value of characters, through names.
+    ///
+    /// # Errors
+    ///
+    /// Returns [`Problem::Consequence`] if a definition has an error, [`Problem::Expected`] if the value is
+    /// no string, the error of a name on the way, or [`Problem::Circular`] if the names do not end.
     pub fn text_value(self, place: Place) -> Result<Place, NotationError> {
         let mut found = place;
         for _ in 0..MAX_STEPS {
@@ -105,8 +116,8 @@ impl<'r> Scope<'r> {
         Some((count, parts))
     }
 
-    /// Returns the number of the character that a tuple or a quadruple is (X.680 41.8). `None` if the braces
-    /// are neither.
+    /// Returns the number of the character of a tuple or a quadruple (X.680 41.8). `None` if the braces are
+    /// neither.
     pub fn character_of(self, braces: Place) -> Option<u32> {
         match self.parts_of_character(braces)? {
             (2, [column @ 0..=7, row @ 0..=15, ..]) => Some(column * 16 + row),

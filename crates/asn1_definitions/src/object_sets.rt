@@ -33,7 +33,7 @@ struct Terms {
     last: Option<Term>,
 }
 
-/// The objects of a set, one after another. An object of several of its parts comes several times.
+/// The objects of a set, one after another. An object that is in several of its parts is returned several times.
 #[derive(Clone, Copy)]
 pub struct Objects {
     sets: [Option<Terms>; MAX_SETS],
@@ -172,7 +172,11 @@ fn element_of(scope: Scope<'_>, place: Place) -> Result<Element, NotationError> 
 }
 
 impl Objects {
-    /// Begins with the first object of a set, by its name or its braces.
+    /// Returns the objects of a set, from the first one on, by the set's name or its braces.
+    ///
+    /// # Errors
+    ///
+    /// Returns the errors of [`Scope::braces_of`].
     pub fn new(scope: Scope<'_>, set: Place) -> Result<Objects, NotationError> {
         let mut objects = Objects {
             sets: [None; MAX_SETS],
@@ -214,6 +218,12 @@ impl Objects {
     }
 
     /// Returns the braces of the next object. `None` if there is none.
+    ///
+    /// # Errors
+    ///
+    /// Returns [`Problem::TooMuchWork`] if the set has too many parts, [`Problem::Expected`] if a part is no
+    /// object or set, [`Problem::Unsupported`] if a part is not supported, the error of a name on the way, or
+    /// [`Problem::Circular`] if a set contains itself.
     pub fn next(&mut self, scope: Scope<'_>) -> Result<Option<Place>, NotationError> {
         let mut work = Work { left: MAX_WORK };
         self.next_object(scope, &mut work, MAX_RESTRICTIONS)

@@ -1,13 +1,13 @@
 //! What constraints permit: bounds of values, bounds of sizes, and alphabets.
 
-/// The least and the greatest of some numbers. `None` is no bound.
+/// The least and the greatest of some numbers. `None` is the absence of a bound.
 #[derive(Clone, Copy, PartialEq, Eq)]
 pub struct Hull {
     /// The least.
     pub least: Option<i128>,
     /// The greatest.
     pub greatest: Option<i128>,
-    /// Whether an extension marker says that others can follow.
+    /// Whether it has an extension marker.
     pub is_extensible: bool,
 }
 
@@ -18,8 +18,8 @@ pub const ALL_NUMBERS: Hull = Hull {
     is_extensible: false,
 };
 
-/// What a constraint permits. `None` is a constraint that says nothing of it, or that the packed
-/// encoding rules do not look at (X.691 10.3).
+/// What a constraint permits. A field is `None` if the constraint does not limit it, or not in a
+/// way that is visible to the packed encoding rules (X.691 10.3).
 #[derive(Clone, Copy, PartialEq, Eq)]
 pub struct Permitted {
     /// The values of an INTEGER.
@@ -65,7 +65,7 @@ impl Hull {
         }
     }
 
-    /// Returns the hull of the numbers of either.
+    /// Returns the hull of the numbers of either hull.
     pub fn or(self, other: Hull) -> Hull {
         let least = match (self.least, other.least) {
             (Some(a), Some(b)) => Some(a.min(b)),
@@ -90,7 +90,7 @@ impl Hull {
         }
     }
 
-    /// Returns whether there is no number.
+    /// Returns whether the hull has no number.
     pub fn is_empty(self) -> bool {
         match (self.least, self.greatest) {
             (Some(least), Some(greatest)) => greatest < least,
@@ -125,7 +125,7 @@ fn marked(hull: Option<Hull>, is_extensible: bool) -> Option<Hull> {
 }
 
 impl Permitted {
-    /// Returns what both permit (X.691 10.3: what is not visible is ignored).
+    /// Returns what both permit. A limit that is not visible is ignored (X.691 10.3).
     pub fn and(self, other: Permitted) -> Permitted {
         Permitted {
             values: both(self.values, other.values),
@@ -138,7 +138,7 @@ impl Permitted {
         }
     }
 
-    /// Returns what either permits. A part that is not visible makes the whole so.
+    /// Returns what either permits. It limits nothing that one of them does not visibly limit.
     pub fn or(self, other: Permitted) -> Permitted {
         Permitted {
             values: either(self.values, other.values),
@@ -150,8 +150,8 @@ impl Permitted {
         }
     }
 
-    /// Returns what a constraint on a type with this one permits. Only the last constraint makes a
-    /// type extensible (X.680 50).
+    /// Returns what the constraint `last` permits on a type with this constraint. Only the last
+    /// constraint makes a type extensible (X.680 50).
     pub fn followed_by(self, last: Permitted) -> Permitted {
         if last == EVERYTHING {
             self

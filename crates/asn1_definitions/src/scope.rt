@@ -5,7 +5,7 @@ use crate::hash::list_of;
 use crate::instances::Instance;
 use asn1_notation::{Entry, Item, NO_ENTRY, NotationError, Problem, error_at, part_of, wide};
 
-/// How many names may refer to names, one after another.
+/// The most names that may refer to names, one after another.
 pub const MAX_STEPS: usize = 400;
 
 /// An entry, in its module.
@@ -37,7 +37,7 @@ impl Inside {
         Some(at)
     }
 
-    /// Returns the index of the next entry, where those of an addition group follow the group.
+    /// Returns the index of the next entry. After an addition group it returns those in the group.
     pub fn next_in_groups(&mut self, tape: &[Entry]) -> Option<usize> {
         let at = self.next(tape)?;
         if tape.get(at)?.item == Item::Group {
@@ -49,9 +49,8 @@ impl Inside {
 
 /// A text, its entries, and its definitions and imports in lists by the hash of their names.
 ///
-/// A list is one more than the index of its first definition or import, or 0 if it is empty. The link of
-/// each is the same of the next one. The link of a type is one more than its node among those of
-/// its instance, or 0 if it has no node of its own.
+/// A list, or a link of an entry in it, is one more than the index of the next definition or import, or 0.
+/// The link of a type is one more than its node in its instance, or 0 if it has none.
 #[derive(Clone, Copy, Drop)]
 pub struct Scope<'r> {
     /// The text.
@@ -65,7 +64,7 @@ pub struct Scope<'r> {
 }
 
 impl<'r> Scope<'r> {
-    /// Returns an entry.
+    /// Returns the entry at an index.
     pub fn entry(self, index: usize) -> Entry {
         match self.tape.get(index) {
             Some(entry) => *entry,
@@ -78,7 +77,7 @@ impl<'r> Scope<'r> {
         self.entry(place.index).item
     }
 
-    /// Returns the index of the octet of the text at which an entry begins, with its quote.
+    /// Returns the index of the octet of the text at which an entry begins, with its quote if it has one.
     pub fn at(self, place: Place) -> usize {
         let entry = self.entry(place.index);
         match entry.item {
@@ -105,7 +104,7 @@ impl<'r> Scope<'r> {
         }
     }
 
-    /// Returns a number that is at least that of the entries inside another.
+    /// Returns a number that no count of entries inside another exceeds.
     pub fn most(self) -> usize {
         self.tape.len()
     }
@@ -138,7 +137,7 @@ impl<'r> Scope<'r> {
         None
     }
 
-    /// Returns the first entry inside another that is such an item. `None` if there is none.
+    /// Returns the first entry inside another with an item. `None` if there is none.
     pub fn find_in(self, place: Place, item: Item) -> Option<Place> {
         let mut inside = self.inside(place);
         for _ in 0..self.most() {
@@ -150,8 +149,7 @@ impl<'r> Scope<'r> {
         None
     }
 
-    /// Returns the first entry inside another that is such an item with a name, also in an addition
-    /// group. `None` if there is none.
+    /// Returns the first entry with an item and a name inside another or its addition groups, if any.
     pub fn named_in(self, place: Place, item: Item, name: Entry) -> Option<Place> {
         let mut inside = self.inside(place);
         for _ in 0..self.most() {
@@ -174,8 +172,7 @@ impl<'r> Scope<'r> {
         self.listed_in(list_of(self.text_of(name)), module, name, false)
     }
 
-    /// Returns the definition, or the import, of a name in a module, by the index of the name's list. `None`
-    /// if there is none.
+    /// Returns the definition or the import of a name in a module, by the index of its list, if there is one.
     pub(crate) fn listed_in(
         self,
         list: usize,
@@ -216,7 +213,11 @@ impl<'r> Scope<'r> {
         None
     }
 
-    /// Returns the definition of a name, which may be after that of its module.
+    /// Returns the definition of a name, which may be imported, or have the name of its module before it.
+    ///
+    /// # Errors
+    ///
+    /// Returns `UnknownModule`, `Undefined`, or `Consequence` if the import of the name has an error.
     pub fn definition(self, place: Place) -> Result<Place, NotationError> {
         let entry = self.entry(place.index);
         match entry.item {
@@ -295,6 +296,10 @@ impl<'r> Scope<'r> {
     }
 
     /// Returns the value that a name refers to, and its type.
+    ///
+    /// # Errors
+    ///
+    /// Returns the errors of [`Self::definition`], `NotA` for no value, or `Unsupported` for parameters.
     pub fn named_value(self, place: Place) -> Result<(Place, Place), NotationError> {
         if let Some((parameter, argument)) = self.argument(place) {
             return Ok((argument, self.type_in(parameter)));
@@ -313,8 +318,11 @@ impl<'r> Scope<'r> {
         }
     }
 
-    /// Returns the type that a name refers to, that a selection type is, or that has a tag here. `None`
-    /// if a type is none of them.
+    /// Returns the type that a name, a selection type, a field or a tag is of. `None` if it is none of them.
+    ///
+    /// # Errors
+    ///
+    /// Returns the errors of names, classes and objects, `NotA` for another definition, or `Arguments`.
     pub fn inner(self, place: Place) -> Result<Option<Place>, NotationError> {
         Ok(match self.item(place) {
             Item::Reference | Item::ExternalReference | Item::Literal => Some(self.target(place)?),
@@ -330,6 +338,10 @@ impl<'r> Scope<'r> {
     }
 
     /// Returns the type that is no name and has no tag, through names and tags.
+    ///
+    /// # Errors
+    ///
+    /// Returns the errors of [`Self::inner`], or [`Problem::Circular`] if the names do not end.
     pub fn base(self, place: Place) -> Result<Place, NotationError> {
         let mut found = place;
         for _ in 0..MAX_STEPS {
@@ -341,7 +353,7 @@ impl<'r> Scope<'r> {
         Err(self.error(Problem::Circular, place))
     }
 
-    /// Returns the type that is no name, through names.
+    /// Returns the type that is no name, through names. Its errors are those of [`Self::base`].
     pub fn named_type(self, place: Place) -> Result<Place, NotationError> {
         let mut found = place;
         for _ in 0..MAX_STEPS {
@@ -366,7 +378,11 @@ impl<'r> Scope<'r> {
         Some(first.saturating_add(wide(link - 1)))
     }
 
-    /// Returns the node of a type: its own, or that of the type that it refers to.
+    /// Returns the node of a type, or of the type that it refers to.
+    ///
+    /// # Errors
+    ///
+    /// Returns the errors of [`Self::base`], or [`Problem::NotA`] if the type has no node.
     pub fn node_of(self, place: Place) -> Result<usize, NotationError> {
         let mut found = place;
         for _ in 0..MAX_STEPS {

@@ -17,13 +17,13 @@ fn universal(number: u32) -> Tag {
     Tag { class: 0, number }
 }
 
-/// Returns a tag of the class context-specific.
+/// Returns a tag of the class context-specific with a number.
 pub fn context(number: u32) -> Tag {
     Tag { class: 2, number }
 }
 
 impl Tag {
-    /// Returns a number that orders tags.
+    /// Returns a number that is greater for a later tag in the canonical order (X.680 8.6).
     pub fn order(self) -> u64 {
         (u64::from(self.class) << 32) | u64::from(self.number)
     }
@@ -64,6 +64,11 @@ fn tag_of_word(word: Word) -> Option<Tag> {
 
 impl<'r> Scope<'r> {
     /// Returns the tag of a type that is no name and no CHOICE. `None` if it has none.
+    ///
+    /// # Errors
+    ///
+    /// Returns [`Problem::Expected`] if the type has a tag without a number, the errors of
+    /// [`Self::number`] for its number, or [`Problem::TooLarge`] if 32 bits do not hold the number.
     pub fn tag_of(self, place: Place) -> Result<Option<Tag>, NotationError> {
         let entry = self.entry(place.index);
         Ok(match entry.item {
@@ -101,8 +106,8 @@ impl<'r> Scope<'r> {
         }
     }
 
-    /// Returns whether the components of a type have automatic tags: its module asks for them, and no
-    /// component is written with a tag (X.680 25.3, 29.2).
+    /// Returns whether the components of a type have automatic tags: its module has AUTOMATIC TAGS,
+    /// and no component is written with a tag (X.680 25.3, 29.2).
     pub fn is_automatic(self, place: Place) -> bool {
         if self.entry(place.module).word != Some(Word::Automatic) {
             return false;

@@ -3,20 +3,20 @@
 use asn1_schema::{Part, Span};
 use std::alloc::{AllocError, Global};
 
-/// The value of an open type, or of a string with CONTAINING, whose contents are in the JSON, and are to be
-/// encoded.
+/// The value of an open type, or of a string with CONTAINING, whose contents the JSON has as a value. The
+/// caller must encode them.
 #[derive(Clone, Copy, Debug, PartialEq, Eq)]
 pub struct Pending {
     /// The index of its part.
     pub part: usize,
     /// The node of the type of its contents.
     pub node: usize,
-    /// The item with the value of its contents.
+    /// The index of the item with the value of its contents.
     pub item: usize,
 }
 
-/// The parts of a value, the octets in which they have their bits, and the item of the JSON that each
-/// part comes from.
+/// The parts of a value, the octets in which they have their bits, and the item of the JSON from which each
+/// part is made.
 #[derive(Drop)]
 pub struct Draft {
     parts: Vec<Part>,
@@ -36,8 +36,8 @@ impl Draft {
         }
     }
 
-    /// Returns the values whose contents are to be encoded. Until `set_octets` says what
-    /// their octets are, they have none.
+    /// Returns the values whose contents the caller must encode. They have no octets until
+    /// [`Self::set_octets`] sets them.
     pub fn pending(&self) -> &[Pending] {
         self.pending.as_slice()
     }
@@ -60,11 +60,11 @@ impl Draft {
         self.push(none, item)
     }
 
-    /// Sets the octets of a part, or its bits if it is a BIT STRING.
+    /// Sets the octets of a part, or the bits of a BIT STRING.
     ///
     /// # Errors
     ///
-    /// Returns an error if out of memory.
+    /// Returns an error if out of memory. The part is unchanged then.
     pub fn set_octets(&mut self, part: usize, octets: &[u8]) -> Result<(), AllocError> {
         let span = self.add(octets)?;
         if let Some(place) = self.parts.as_mut_slice().get_mut(part) {
@@ -86,7 +86,7 @@ impl Draft {
         self.octets.as_slice()
     }
 
-    /// Returns the item that a part comes from.
+    /// Returns the index of the item from which a part is made, or 0 if there is no such part.
     pub fn item_of(&self, part: usize) -> usize {
         self.items.as_slice().get(part).copied().unwrap_or(0)
     }
@@ -113,8 +113,7 @@ impl Draft {
         })
     }
 
-    /// Replaces the parts of a value by one that says that it is absent: those from one index to
-    /// another.
+    /// Replaces the parts of a value, those from one index up to another, by one absent part.
     pub fn set_absent(&mut self, from: usize, to: usize) {
         let end = to.min(self.parts.len());
         if from >= end {
@@ -126,7 +125,8 @@ impl Draft {
         self.remove(from.saturating_add(1), end);
     }
 
-    /// Removes the additions of a SEQUENCE or SET if all of them are absent, so that it has none.
+    /// Removes the additions of a SEQUENCE or SET if all of them are absent. Then it has no additions.
+    ///
     /// `additions` is the index of the part that counts them, and `sequence` that of the SEQUENCE or SET.
     pub fn remove_absent_additions(&mut self, sequence: usize, additions: usize) {
         let Some(Part::Additions(count)) = self.parts.as_slice().get(additions).copied() else {
@@ -172,8 +172,12 @@ impl Draft {
         self.items.truncate(left);
     }
 
-    /// Puts parts in another order: from an index on those of each range, one range after another, and
-    /// then those after the last of them.
+    /// Reorders the parts from an index on: those of each range in the order of `ranges`, and then those
+    /// after the last of them.
+    ///
+    /// # Errors
+    ///
+    /// Returns an error if out of memory. The parts are unchanged then.
     pub fn reorder(
         &mut self,
         alloc: Global,

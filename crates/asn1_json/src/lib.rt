@@ -1,7 +1,7 @@
 //! The JSON of values of ASN.1 types (X.697), by the tables of a schema.
 //!
-//! [`print_value`] prints the parts of a decoded message. [`parse_value`] makes the parts of a value
-//! from JSON, for an encoder.
+//! [`print_value`] prints the parts of a decoded message as JSON. [`parse_value`] makes the parts of
+//! a value from JSON, for an encoder.
 #![tactic(auto)]
 
 mod bits;

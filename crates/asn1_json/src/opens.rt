@@ -11,7 +11,7 @@ use std::str;
 /// No rows.
 const NO_ROWS: Rows = Rows { from: 0, count: 0 };
 
-/// A value of an open type whose contents other components tell (X.682 10), or of an OCTET STRING or a BIT
+/// A value of an open type whose contents depend on other components (X.682 10), or of an OCTET STRING or a BIT
 /// STRING with CONTAINING (X.682 11).
 #[derive(Clone, Copy, Debug, PartialEq, Eq)]
 pub struct OpenValue {
@@ -35,7 +35,7 @@ pub struct Contents {
     pub parts: Vec<Part>,
 }
 
-/// Returns the octets of a part of a message. `None` if the part has none, or bits that are no whole octets.
+/// Returns the octets of a part of a message. `None` if the part has none, or if its bits are not whole octets.
 ///
 /// # Errors
 ///
@@ -53,9 +53,10 @@ pub fn octets_of_part(
     }
 }
 
-/// Returns the values of open types, and of strings with CONTAINING, among the parts of a value of the type
-/// at a node. It leaves out those for which the schema does not know the type of the contents. The value
-/// must be nested less deep than `depth`.
+/// Returns the values of open types, and of strings with CONTAINING, in a value of the type at a node.
+///
+/// It omits those for which the schema has no type of the contents. The value must be nested less deep than
+/// `depth`.
 ///
 /// # Errors
 ///

@@ -68,13 +68,16 @@ impl<'s, T: Drop> From<AllocFailed<T>> for JsonError<'s> {
     }
 }
 
-/// Makes the parts of a value of the type at a node from the JSON of a tree. A value may be nested
-/// less deep than `depth`.
+/// Makes the parts of a value of the type at a node from the JSON of a tree.
+///
+/// It rejects a value that is nested `depth` levels or deeper. It does not check the constraints of the
+/// type; an encoder does.
 ///
 /// # Errors
 ///
-/// Returns the first item that does not fit the type: contents of an open type must be hexadecimal digits.
-/// That the value meets the type's constraints is left to an encoder.
+/// Returns the first item that does not fit the type. Otherwise, it returns [`JsonProblem::Expected`] at
+/// the first item that is the contents of an open type and no hexadecimal digits. The problem is
+/// [`JsonProblem::Memory`] if out of memory.
 pub fn parse_value<'s>(
     alloc: Global,
     schema: &'s Schema,
@@ -89,12 +92,15 @@ pub fn parse_value<'s>(
     }
 }
 
-/// Makes the parts of a value of the type at a node from an item of a tree and those inside it. Contents
-/// of open types that are values are left in `Draft::pending`.
+/// Makes the parts of a value of the type at a node from an item of a tree and the items inside it, as
+/// [`parse_value`] does.
+///
+/// The contents of open types may also be values: [`Draft::pending`] returns them.
 ///
 /// # Errors
 ///
-/// Returns the first item that does not fit the type.
+/// Returns the first item that does not fit the type. The problem is [`JsonProblem::Memory`] if out of
+/// memory.
 pub fn parse_value_at<'s>(
     alloc: Global,
     schema: &'s Schema,

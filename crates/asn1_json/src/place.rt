@@ -3,7 +3,7 @@
 use crate::tree::{Kind, Tree};
 use std::alloc::{AllocError, Global};
 
-/// Returns the line and the column of an octet of a text, in characters, from 1 on.
+/// Returns the line and the column, in characters, of an octet of a text. Both count from 1 on.
 pub fn line_and_column(text: &str, at: usize) -> (usize, usize) {
     let before = text.get(..at).unwrap_or(text);
     let start = match before.rfind('\n') {
@@ -59,6 +59,10 @@ fn step(
 
 /// Returns the path from a value to an item: `$` for the value itself, then `.name` for a member and
 /// `[index]` for an item of an array.
+///
+/// # Errors
+///
+/// Returns an error if out of memory.
 pub fn path_of(alloc: Global, tree: &Tree<'_>, wanted: usize) -> Result<String, AllocError> {
     let mut path = String::from_str(alloc, "$")?;
     let mut index = 0usize;

@@ -33,12 +33,15 @@ impl From<AllocError> for PrintError {
     }
 }
 
-/// Prints the value of a type at a node whose first part is the first of `parts`, as JSON with a line
-/// for each member and item. A value may be nested less deep than `depth`.
+/// Prints the value of a type at a node as JSON (X.697), with a line for each member and item. The value
+/// begins at the first of `parts`.
 ///
 /// # Errors
 ///
-/// Returns `NoValue` if the parts are no value of the type: a decoder returns no such parts.
+/// Returns the first error in the order of the parts: [`PrintError::TooDeep`] if a value is nested
+/// `depth` levels or deeper, [`PrintError::NoValue`] if the parts are no value of the type,
+/// [`PrintError::Unsupported`] if a value has no form in JSON, or [`PrintError::Memory`] if out of
+/// memory. Parts from a decoder are always a value.
 pub fn print_value(
     alloc: Global,
     schema: &Schema,
@@ -53,12 +56,17 @@ pub fn print_value(
 }
 
 /// Prints a value as [`print_value`] does, and the contents of open types in it as
-/// `{"containing": value}`. `contents` must be sorted by [`Contents::inside`], and then by the index of
-/// the part of the open type. Otherwise some contents are printed as hexadecimal digits.
+/// `{"containing": value}`.
+///
+/// `contents` must be sorted by [`Contents::inside`], and then by the index of the part of the open
+/// type. Otherwise some contents are printed as hexadecimal digits.
 ///
 /// # Errors
 ///
-/// Returns `NoValue` if the parts are no value of the type: a decoder returns no such parts.
+/// Returns the first error in the order of the parts: [`PrintError::TooDeep`] if a value is nested
+/// `depth` levels or deeper, [`PrintError::NoValue`] if the parts are no value of the type,
+/// [`PrintError::Unsupported`] if a value has no form in JSON, or [`PrintError::Memory`] if out of
+/// memory. Parts from a decoder are always a value.
 pub fn print_with_contents(
     alloc: Global,
     schema: &Schema,
@@ -75,12 +83,17 @@ pub fn print_with_contents(
     Ok(printer.into_octets())
 }
 
-/// Prints a value in the value notation of X.680. `contents` must be sorted as for
-/// [`print_with_contents`]. A comment replaces each value that the schema does not know.
+/// Prints a value in the value notation of X.680. A comment replaces each value that the schema does not
+/// know.
+///
+/// `contents` must be sorted as for [`print_with_contents`].
 ///
 /// # Errors
 ///
-/// Returns `NoValue` if the parts are no value of the type: a decoder returns no such parts.
+/// Returns the first error in the order of the parts: [`PrintError::TooDeep`] if a value is nested
+/// `depth` levels or deeper, [`PrintError::NoValue`] if the parts are no value of the type,
+/// [`PrintError::Unsupported`] if a value has no form in the notation, or [`PrintError::Memory`] if out
+/// of memory. Parts from a decoder are always a value.
 pub fn print_in_notation(
     alloc: Global,
     schema: &Schema,

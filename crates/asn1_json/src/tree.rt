@@ -57,7 +57,7 @@ impl<T: Drop> From<AllocFailed<T>> for TreeError {
     }
 }
 
-/// A JSON value: an item, and those inside it after it.
+/// A JSON value: an item, followed by those inside it.
 #[derive(Drop)]
 pub struct Tree<'t> {
     items: Vec<Item<'t>>,
@@ -71,7 +71,8 @@ impl<'t> Tree<'t> {
     ///
     /// # Errors
     ///
-    /// Returns the index of the first octet that is not permitted, or `Memory`.
+    /// Returns [`TreeError::Invalid`] with the index of the first octet that JSON does not permit,
+    /// or [`TreeError::Memory`] if out of memory.
     pub fn parse(
         alloc: Global,
         text: &'t str,
@@ -95,7 +96,7 @@ impl<'t> Tree<'t> {
         Ok(tree)
     }
 
-    /// Returns an item. `None` if there is none.
+    /// Returns the item at an index. `None` if there is none.
     pub fn item(&self, index: usize) -> Option<Item<'t>> {
         self.items.as_slice().get(index).copied()
     }

@@ -1,8 +1,8 @@
-//! What is wrong in a text, and where.
+//! The problems of a text, and where they are.
 
 use thiserror::Error;
 
-/// What is wrong in a text.
+/// A problem of a text.
 #[derive(Clone, Copy, Debug, PartialEq, Eq, Error)]
 pub enum Problem {
     /// The text has 2^32 - 1 octets or more.
@@ -29,7 +29,8 @@ pub enum Problem {
     /// Types, values or constraints are nested too deep.
     #[error("nested deeper than 100 levels")]
     TooDeep,
-    /// The names of the text lead to too much work, as `COMPONENTS OF` that doubles at each step.
+    /// The names of the text lead to too much work, as with a `COMPONENTS OF` that doubles at each
+    /// step.
     #[error("the definitions expand to too many components")]
     TooMuchWork,
     /// A number exceeds what the tables can hold.
@@ -60,7 +61,7 @@ pub enum Problem {
     /// 29.3).
     #[error("the tag equals that of another component")]
     EqualTags,
-    /// The name is of a definition of another sort.
+    /// The name is that of a definition of another kind.
     #[error("the name must be that of {0}")]
     NotA(&'static str),
     /// A constraint permits no value.
@@ -69,7 +70,7 @@ pub enum Problem {
     /// A type has more or fewer arguments than its definition has parameters (X.683 9.5).
     #[error("the number of arguments is not that of the parameters")]
     Arguments,
-    /// The name is of a definition with an error, which has a report of its own.
+    /// The name is that of a definition with an error, which is reported on its own.
     #[error("the definition of the name has an error")]
     Consequence,
     /// The notation is correct and not supported.
@@ -81,13 +82,13 @@ pub enum Problem {
 #[derive(Clone, Copy, Debug, PartialEq, Eq, Error)]
 #[error("octet {at}: {problem}")]
 pub struct NotationError {
-    /// What is wrong.
+    /// The problem.
     pub problem: Problem,
     /// The index of the octet.
     pub at: usize,
 }
 
-/// Returns an error at an octet of the text.
+/// Returns an error with a problem and the index of its octet in the text.
 pub fn error_at(problem: Problem, at: usize) -> NotationError {
     NotationError { problem, at }
 }

@@ -11,7 +11,7 @@ fn tail(text: &[u8], from: usize) -> &[u8] {
     &text[text.len().min(from)..]
 }
 
-/// Returns the octets of a text that a span names, as far as the text has them.
+/// Returns `count` octets of a text from an index on, as far as the text has them.
 pub fn part_of(text: &[u8], from: usize, count: usize) -> &[u8] {
     let rest = tail(text, from);
     &rest[..rest.len().min(count)]

@@ -1,7 +1,7 @@
 //! The notation of ASN.1 modules (X.680), read without allocation.
 //!
-//! [`parse`] writes what a text says as entries in the caller's room, or returns the first problem of
-//! the text. Every text has a result: work and depth are bounded.
+//! [`parse`] reads a text into entries in the caller's room, or returns the first problem of the
+//! text. Work and depth are bounded for every text.
 #![tactic(auto)]
 
 mod classes;

@@ -16,9 +16,9 @@ pub struct Counts {
     pub errors: usize,
 }
 
-/// Reads the modules of a text as entries, and returns how many there are.
+/// Reads the modules of a text into entries, and returns how many entries there are.
 ///
-/// `room` receives the entries. Where it holds fewer, the first ones are in it.
+/// `room` receives the first entries, as many as it has room for.
 ///
 /// # Errors
 ///
@@ -33,11 +33,10 @@ pub fn parse(text: &[u8], room: &mut [Entry]) -> Result<usize, NotationError> {
     }
 }
 
-/// Reads the modules of a text as entries, and returns how many there are, and how many errors. A
-/// definition with an error has one entry inside, `Broken`, and the next definition follows it.
+/// Reads the modules of a text into entries, and returns how many entries and how many errors there are.
 ///
-/// `room` receives the entries, and `errors` the errors. Where they hold fewer, the first ones are in
-/// them.
+/// A definition with an error has one entry inside, `Broken`, and the next definition follows it. `room`
+/// receives the first entries, and `errors` the first errors, as many as they have room for.
 pub fn parse_all(text: &[u8], room: &mut [Entry], errors: &mut [NotationError]) -> Counts {
     let mut found = Sink::new(errors);
     let mut parser = Parser::new(text, room);

@@ -20,7 +20,7 @@ pub struct Report<'a> {
 }
 
 impl<'a> Report<'a> {
-    /// Makes the report of an error in a text.
+    /// Returns the report of an error in a text.
     pub fn new(text: &'a str, error: NotationError) -> Report<'a> {
         Report { text, error }
     }
@@ -49,7 +49,7 @@ impl<'a> Report<'a> {
         line
     }
 
-    /// Returns the number of the column in characters, from 1 on.
+    /// Returns the number of the column, in characters, from 1 on.
     pub fn column(&self) -> usize {
         self.indent().chars().count().saturating_add(1)
     }
@@ -68,7 +68,7 @@ impl<'a> Report<'a> {
         }
     }
 
-    /// Returns the item at which the error is. `None` at the end of the text.
+    /// Returns the text of the item at the error. `None` at the end of the text.
     pub fn found(&self) -> Option<&'a str> {
         let token = next_token(self.text.as_bytes(), self.error.at);
         match token.kind {

@@ -1,6 +1,6 @@
 //! Room in which a table is built.
 
-/// A table in the caller's room. It counts the rows that the room cannot hold, and does not keep them.
+/// A table in the caller's room. It counts rows for which there is no room, and does not keep them.
 #[derive(Drop)]
 pub struct Sink<'m, T: Copy> {
     room: &'m mut [T],
@@ -36,7 +36,7 @@ impl<'m, T: Copy> Sink<'m, T> {
         index
     }
 
-    /// Appends rows that are set later.
+    /// Appends `count` rows, which are set later.
     pub fn reserve(&mut self, count: usize) {
         self.count = self.count.saturating_add(count);
         self.most = self.most.max(self.count);
@@ -47,12 +47,12 @@ impl<'m, T: Copy> Sink<'m, T> {
         self.count = self.count.min(count);
     }
 
-    /// Returns a row. `None` if the room does not hold it.
+    /// Returns the row at an index. `None` if the room does not hold it.
     pub fn get(&self, index: usize) -> Option<T> {
         self.room.get(index).copied()
     }
 
-    /// Sets a row, if the room holds it.
+    /// Sets the row at an index, if the room holds it.
     pub fn set(&mut self, index: usize, row: T) {
         if let Some(kept) = self.room.get_mut(index) {
             *kept = row;

@@ -2,7 +2,7 @@
 
 use crate::word::Word;
 
-/// What an entry is. The comments say what is inside, in braces.
+/// What an entry is. The comments have the entries inside it in braces.
 #[derive(Clone, Copy, PartialEq, Eq)]
 pub enum Item {
     /// A module. Its word is the default of its tags. { maybe ExtensibilityImplied, maybe Exports,
@@ -31,7 +31,7 @@ pub enum Item {
     Parameters,
     /// A parameter. { maybe type }
     Parameter,
-    /// What a definition with an error is in its place: a type and a value.
+    /// The type and the value of a definition with an error.
     Broken,
 
     /// CLASS (X.681 9.3), or TYPE-IDENTIFIER by its word. { Field.., maybe Syntax }
@@ -194,19 +194,19 @@ pub enum Item {
 pub struct Entry {
     /// What it is.
     pub item: Item,
-    /// The word that says more of it.
+    /// Its reserved word, if it has one.
     pub word: Option<Word>,
     /// The index of the first octet of its name or of its own text.
     pub from: u32,
-    /// How many octets that has.
+    /// How many octets its name or its own text has.
     pub count: u32,
-    /// The index of the entry after all that are inside.
+    /// The index of the entry after all entries inside it.
     pub end: u32,
     /// A number for those who read the entries. The parser sets it to 0.
     pub link: u32,
 }
 
-/// An entry that says nothing.
+/// An empty entry, to fill room with.
 pub const NO_ENTRY: Entry = Entry {
     item: Item::Comma,
     word: None,
@@ -216,7 +216,7 @@ pub const NO_ENTRY: Entry = Entry {
     link: 0,
 };
 
-/// Returns a number in 32 bits: the largest one if it does not fit.
+/// Returns a number in 32 bits, or `u32::MAX` if it does not fit.
 pub fn narrow(number: usize) -> u32 {
     u32::try_from(number).unwrap_or(u32::MAX)
 }

@@ -76,8 +76,8 @@ fn binary_of(first: u8, rest: &[u8]) -> Option<f64> {
     Some(f64_from_bits_with_nan(sign | bits))
 }
 
-/// Returns the value that contents octets encode. `None` for a number of base 2 that 64 bits of IEEE 754
-/// do not hold, and for a first octet that encodes no value.
+/// Returns the value that contents octets encode. `None` for a number of base 2 that 64 bits of IEEE 754 do not
+/// hold, and if the first octet encodes no value.
 pub fn real_of(octets: &[u8]) -> Option<Real<'_>> {
     let Some((first, rest)) = octets.split_first() else {
         return Some(Real::Binary(0.0));
@@ -117,8 +117,15 @@ fn append_minimal(octets: &mut Vec<u8>, number: u64) -> Result<(), AllocError> {
     Ok(())
 }
 
-/// Appends the contents octets of `mantissa * 2^exponent`, with a sign, in the form of X.690 11.3.1. Zero has
-/// no octets. Returns `false` and appends nothing if the exponent of the odd mantissa exceeds three octets.
+/// Appends the contents octets of `mantissa * 2^exponent`, with a sign, in the form of X.690 11.3.1. Returns whether
+/// they were appended.
+///
+/// Zero has no octets. It returns `false` and appends nothing if the exponent of the odd mantissa exceeds three
+/// octets.
+///
+/// # Errors
+///
+/// Returns an error if out of memory. Some of the octets may have been appended then.
 pub fn append_binary(
     octets: &mut Vec<u8>,
     is_negative: bool,
@@ -149,7 +156,11 @@ pub fn append_binary(
     Ok(true)
 }
 
-/// Appends the contents octets of a number of 64 bits.
+/// Appends the contents octets of a number of 64 bits (X.690 8.5, 11.3.1).
+///
+/// # Errors
+///
+/// Returns an error if out of memory. Some of the octets may have been appended then.
 pub fn append_float(octets: &mut Vec<u8>, number: f64) -> Result<(), AllocError> {
     let bits = f64_to_bits_with_nan(number);
     let is_negative = bits >> 63 == 1;
@@ -181,9 +192,15 @@ pub fn append_float(octets: &mut Vec<u8>, number: f64) -> Result<(), AllocError>
     Ok(())
 }
 
-/// Appends the contents octets of base 10 of a decimal number, as `-25e-3`, in the form of X.690 11.3.2. Zero has no
-/// octets, and minus zero is a special value (X.690 8.5.2, 8.5.9). Returns `false` and appends nothing if
-/// 32 bits do not hold the exponent in the text.
+/// Appends the contents octets of base 10 of a decimal number, as `-25e-3`, in the form of X.690 11.3.2. Returns
+/// whether they were appended.
+///
+/// Zero has no octets, and minus zero is a special value (X.690 8.5.2, 8.5.9). It returns `false` and appends
+/// nothing if 32 bits do not hold the exponent in the text.
+///
+/// # Errors
+///
+/// Returns an error if out of memory. Some of the octets may have been appended then.
 pub fn append_decimal(octets: &mut Vec<u8>, alloc: Global, text: &str) -> Result<bool, AllocError> {
     let (sign, text) = match text.strip_prefix('-') {
         Some(text) => ("-", text),

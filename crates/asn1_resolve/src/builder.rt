@@ -45,7 +45,7 @@ pub struct NamedType {
     pub node: usize,
 }
 
-/// A component that is to become a member.
+/// A component before it is a member of the tables.
 #[derive(Clone, Copy, Debug)]
 pub struct Draft {
     pub(crate) member: Member,
@@ -54,7 +54,7 @@ pub struct Draft {
     pub(crate) first: FirstTags,
 }
 
-/// A tag or the hash of a name, where it must be distinct from others.
+/// A tag or the hash of a name that must be distinct from others.
 #[derive(Clone, Copy, Debug, PartialEq, Eq)]
 pub struct Key {
     pub(crate) key: u64,
@@ -77,7 +77,7 @@ pub const NO_MEMBER: Member = Member {
     presence: Presence::Mandatory,
 };
 
-/// A draft that says nothing.
+/// An empty draft, to fill room with.
 pub const NO_DRAFT: Draft = Draft {
     member: NO_MEMBER,
     name: NO_NAME,
@@ -88,14 +88,14 @@ pub const NO_DRAFT: Draft = Draft {
 /// A node that copies none.
 pub(crate) const NO_SOURCE: usize = usize::MAX;
 
-/// A key that says nothing.
+/// An empty key, to fill room with.
 pub const NO_KEY: Key = Key {
     key: 0,
     is_root: false,
     span: NO_NAME,
 };
 
-/// The tables of a text's types, and the room that it takes to make them.
+/// The tables of the types of a text, and the room in which they are made.
 #[derive(Drop)]
 pub struct Builder<'m> {
     /// The types.
@@ -123,7 +123,7 @@ pub struct Builder<'m> {
     pub tags: Sink<'m, Key>,
     /// The names of one type.
     pub names: Sink<'m, Key>,
-    /// What X.690 asks of each type.
+    /// What X.690 requires of each type.
     pub type_tags: Sink<'m, TypeTags>,
     /// The tags of the types.
     pub tag_rows: Sink<'m, Tag>,
@@ -133,7 +133,7 @@ pub struct Builder<'m> {
     pub first_rows: Sink<'m, Tag>,
     /// The node of which each node is a copy with other tags.
     pub sources: Sink<'m, usize>,
-    /// The open types whose contents other components tell.
+    /// The open types whose contents depend on other components.
     pub opens: Sink<'m, OpenRow>,
     /// The paths of these components.
     pub paths: Sink<'m, PathRow>,
@@ -143,7 +143,7 @@ pub struct Builder<'m> {
 }
 
 impl<'m> Builder<'m> {
-    /// Makes empty tables: the room of each table, in the order of the fields, and the room of the
+    /// Makes empty tables from the room of each table, in the order of the fields, and the room of the
     /// components, tags and names of one type.
     pub fn new(
         nodes: &'m mut [Node],
@@ -184,8 +184,8 @@ impl<'m> Builder<'m> {
         }
     }
 
-    /// Returns the tables with room for open types, the paths of the components that tell their contents,
-    /// and their objects.
+    /// Returns the tables with room for open types, for the paths of the components that their contents
+    /// depend on, and for their objects.
     pub fn with_objects(
         self,
         opens: &'m mut [OpenRow],
@@ -200,8 +200,8 @@ impl<'m> Builder<'m> {
         }
     }
 
-    /// Returns the tables with room for tags: of the types, of their tags, of the members, of their
-    /// first tags, and of the nodes that others are copies of.
+    /// Returns the tables with room for tags: of the types, of their tags, of the members, of their first
+    /// tags, and of the nodes of which others are copies.
     pub fn with_tags(
         self,
         type_tags: &'m mut [TypeTags],

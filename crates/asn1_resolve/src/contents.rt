@@ -249,14 +249,14 @@ impl Schema {
         opens.get(index).copied()
     }
 
-    /// Returns the open type at a node. `None` if the type is no open type, or no other components tell what
-    /// its contents are.
+    /// Returns the open type at a node (X.682 10). `None` if the type is no open type, or if its contents do not
+    /// depend on other components.
     pub fn open_type(&self, node: usize) -> Option<OpenType> {
         self.open_row(node).filter(|open| open.paths.count != 0)
     }
 
-    /// Returns the node of the type whose value an OCTET STRING or a BIT STRING has as its contents (X.682 11).
-    /// `None` if the type has no CONTAINING, or one with ENCODED BY.
+    /// Returns the node of the type that an OCTET STRING or a BIT STRING contains (X.682 11). `None` if the type
+    /// has no CONTAINING, or one with ENCODED BY.
     pub fn contents_type(&self, node: usize) -> Option<usize> {
         let row = self.open_row(node)?;
         if row.paths.count != 0 {
@@ -265,7 +265,7 @@ impl Schema {
         Some(self.objects_of(row).first()?.node)
     }
 
-    /// Returns the paths of the components that tell what the contents of an open type are.
+    /// Returns the paths of the components that the contents of an open type depend on.
     pub fn paths_of(&self, open: OpenType) -> &[OpenPath] {
         let rows = open.paths;
         let end = rows.from.saturating_add(rows.count as usize);
@@ -275,8 +275,8 @@ impl Schema {
             .unwrap_or(&[])
     }
 
-    /// Returns the names of the components that a path leads through: the first one is one of the type in
-    /// which the path begins, and the last one tells what the contents are.
+    /// Returns the names of the components of a path. The first is a component of the type in which the path
+    /// begins. The contents depend on the last one.
     pub fn names_of(&self, path: OpenPath) -> &[NameSpan] {
         let rows = path.names;
         let end = rows.from.saturating_add(rows.count as usize);
@@ -286,7 +286,7 @@ impl Schema {
             .unwrap_or(&[])
     }
 
-    /// Returns the objects that an open type may have, each once for each of its paths.
+    /// Returns the objects that an open type may have, each one once for each of its paths.
     pub fn objects_of(&self, open: OpenType) -> &[OpenObject] {
         let rows = open.objects;
         let end = rows.from.saturating_add(rows.count as usize);
@@ -296,8 +296,8 @@ impl Schema {
             .unwrap_or(&[])
     }
 
-    /// Returns the node of the type of an open type's contents, by the values of the components that its
-    /// paths lead to. `None` if no object has these values.
+    /// Returns the node of the type of an open type's contents, by the values of the components at its paths.
+    /// `None` if no object has these values.
     pub fn contents_of(&self, open: OpenType, keys: &[Key<'_>]) -> Option<usize> {
         let objects = self.objects_of(open);
         let width = open.paths.count as usize;

@@ -1,7 +1,7 @@
 //! The tables of a schema, made from the notation of its modules (X.680).
 //!
-//! [`Schema::parse`] takes the text of modules. [`resolve`] makes the same tables in the caller's
-//! room, without allocation.
+//! [`Schema::parse`] makes them from the text of modules. [`resolve`] makes the same tables in the
+//! caller's room, and does not allocate.
 #![tactic(auto)]
 
 mod alphabet;

@@ -15,13 +15,16 @@ use asn1_schema::Node;
 /// Makes the tables of the types that the entries of a text define.
 ///
 /// `instances` receives the instances of parameterized types, and must have room for all of them.
-/// `tables` must be empty. Where their room is too small they have the first rows, and count all. Only
-/// with room for all of them are equal names and tags found. EXTERNAL, EMBEDDED PDV, CHARACTER STRING and
-/// INSTANCE OF are errors here: `Schema::parse` has the definitions of their associated types.
+/// `tables` must be empty. If a table has too little room, it has the first rows, and counts all. Equal
+/// names and tags are found only with room for all of them. EXTERNAL, EMBEDDED PDV, CHARACTER STRING and
+/// INSTANCE OF are errors here: [`Schema::parse`](crate::Schema::parse) has the definitions of their
+/// associated types.
 ///
 /// # Errors
 ///
-/// Returns the first problem that is found: `TooMuchWork` if `instances` has too little room.
+/// Returns the first problem that is found. It looks for duplicate definitions first, then at
+/// parameterized types, names of types, imports, objects and constraints, and at the types themselves
+/// last. The problem is `TooMuchWork` if `instances` has too little room.
 pub fn resolve(
     text: &[u8],
     tape: &mut [Entry],

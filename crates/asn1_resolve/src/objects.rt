@@ -9,8 +9,8 @@ use asn1_notation::{Item, NotationError, Problem, wide};
 /// How many objects a set may have.
 const MAX_OBJECTS: usize = 1 << 18;
 
-/// An object of a set, as far as an open type depends on it. An open type that depends on several
-/// components has a row of each object for each of them.
+/// An object on which an open type depends. An open type that depends on several components has a row for each
+/// of them and each object.
 #[derive(Clone, Copy, Debug, PartialEq, Eq)]
 pub struct ObjectRow {
     /// The entry of the component's value by which the object is found.
@@ -19,8 +19,8 @@ pub struct ObjectRow {
     pub(crate) node: usize,
 }
 
-/// An open type whose contents other components tell, or an OCTET STRING or BIT STRING with CONTAINING, which
-/// has one object and no component.
+/// An open type whose contents depend on other components, or an OCTET STRING or BIT STRING with CONTAINING,
+/// which has one object and no component.
 #[derive(Clone, Copy, Debug, PartialEq, Eq)]
 pub struct OpenRow {
     /// The open type.

@@ -2,7 +2,7 @@
 
 use asn1_schema::{Characters, Part, Rows, Span};
 
-/// An open type whose contents other components tell.
+/// An open type whose contents depend on other components.
 #[derive(Clone, Copy, Debug, PartialEq, Eq)]
 pub struct OpenType {
     /// The node of the open type.
@@ -13,7 +13,7 @@ pub struct OpenType {
     pub(crate) objects: Rows,
 }
 
-/// The path of a component that tells what the contents of an open type are.
+/// The path of a component that the contents of an open type depend on.
 #[derive(Clone, Copy, Debug, PartialEq, Eq)]
 pub struct OpenPath {
     /// How many of the SEQUENCE, SET and CHOICE types around the open type are inside the one in which the

@@ -9,7 +9,7 @@ pub(crate) const MAX_COMPONENTS: usize = 4;
 /// How many types a component is looked for in, of those that COMPONENTS OF includes in one.
 const MAX_INCLUDED: usize = 1000;
 
-/// A component that tells what the contents of an open type are.
+/// A component that the contents of an open type depend on.
 #[derive(Clone, Copy, Debug, PartialEq, Eq)]
 pub struct PathRow {
     /// The entry of the path.

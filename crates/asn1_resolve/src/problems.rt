@@ -6,7 +6,7 @@ use crate::schema::Schema;
 use asn1_notation::{Entry, Item, NO_ENTRY, NotationError, Problem, narrow, parse_all, wide};
 use std::alloc::{AllocError, AllocFailed, Global};
 
-/// How many problems are returned at most.
+/// The most problems that [`problems_of`] returns.
 pub const MAX_PROBLEMS: usize = 50;
 
 /// How often a text is read: once more for each definition with a problem.
@@ -17,9 +17,10 @@ const NO_PROBLEM: NotationError = NotationError {
     at: 0,
 };
 
-/// Returns the problems of a text's modules in the order of the text, the first ones if they are more than
-/// `MAX_PROBLEMS`. A definition has one at most, and another one that refers to it has none for this
-/// reason. There are none if `Schema::parse` makes the tables of the text.
+/// Returns the problems of a text's modules in the order of the text, at most [`MAX_PROBLEMS`].
+///
+/// A definition has at most one problem. Another one that refers to it has no problem for this reason.
+/// There are none if [`Schema::parse`](crate::Schema::parse) makes the tables of the text.
 ///
 /// # Errors
 ///

@@ -19,7 +19,7 @@ use asn1_schema_values::{NameSpan, Names};
 use asn1_x690::{FirstTags, Tag, TagTables, TypeTags};
 use std::alloc::{AllocError, Global};
 
-/// The types of a text's modules, as tables.
+/// The tables of the types of a text's modules.
 #[derive(Drop)]
 pub struct Schema {
     pub(crate) text: String,
@@ -86,11 +86,12 @@ impl Schema {
         Ok(schema)
     }
 
-    /// Makes the tables of a text's modules.
+    /// Makes the tables of the types of a text's modules.
     ///
     /// # Errors
     ///
-    /// Returns the first problem of the text that is found, or `Memory`.
+    /// Returns [`SchemaError::Notation`] with the first problem of the text that is found, or
+    /// [`SchemaError::Memory`] if out of memory. A problem of the syntax is found before any other.
     pub fn parse(alloc: Global, text: &str) -> Result<Schema, SchemaError> {
         let whole = with_associated_types(alloc, text)?;
         if text.len() < whole.len() {
@@ -228,7 +229,7 @@ impl Schema {
         Ok(())
     }
 
-    /// Returns the tags of the types, as decoders and encoders of DER take them beside the tables.
+    /// Returns the tags of the types, in the form that decoders and encoders of DER take.
     pub fn tag_tables(&self) -> TagTables<'_>
         ensures types { result.types.now ≡ self.now.type_tags.items }
         ensures members { result.members.now ≡ self.now.member_tags.items }
@@ -243,7 +244,7 @@ impl Schema {
         }
     }
 
-    /// Returns the tables, as decoders and encoders take them.
+    /// Returns the tables, in the form that decoders and encoders take.
     pub fn tables(&self) -> Tables<'_>
         ensures nodes { result.nodes.now ≡ self.now.nodes.items }
         ensures members { result.members.now ≡ self.now.members.items }
@@ -256,7 +257,7 @@ impl Schema {
         }
     }
 
-    /// Returns the names of what is in the tables.
+    /// Returns the names of the rows of the tables.
     pub fn names(&self) -> Names<'_>
         ensures nodes { result.nodes.now ≡ self.now.node_names.items }
         ensures members { result.members.now ≡ self.now.member_names.items }
@@ -275,16 +276,17 @@ impl Schema {
         self.types.as_slice()
     }
 
-    /// Returns the values after DEFAULT, by the index that `Presence::Default` has.
+    /// Returns the values after DEFAULT, by the index in
+    /// [`Presence::Default`](asn1_schema::Presence::Default).
     pub fn defaults(&self) -> &[DefaultText]
         ensures { result.now ≡ self.now.defaults.items }
     {
         self.defaults.as_slice()
     }
 
-    /// Returns the parts of the value of a DEFAULT by its index, and the octets in which they have
-    /// their strings. `None` if the value is not read: it is of a type whose values are not supported,
-    /// or none of its type.
+    /// Returns the parts of a value after DEFAULT by its index, and the octets in which they have their
+    /// bits. `None` if there is no such value, if values of its type are not supported, or if it is no
+    /// value of its type.
     pub fn default_value(&self, index: usize) -> Option<(&[Part], &[u8])> {
         let rows = (*self.default_parts.as_slice().get(index)?)?;
         let end = rows.from.saturating_add(rows.count as usize);
@@ -292,12 +294,13 @@ impl Schema {
         Some((parts, self.value_octets.as_slice()))
     }
 
-    /// Returns the text of a name.
+    /// Returns the octets of a name, as far as the text has them.
     pub fn text_of(&self, span: NameSpan) -> &[u8] {
         part_of(self.text.as_str().as_bytes(), span.from, span.count)
     }
 
-    /// Returns the values of an ENUMERATED, by the index that its parts have. Another type has none.
+    /// Returns the values of an ENUMERATED, by the index that its parts have. Returns none for another
+    /// type.
     pub fn enumerals(&self, node: usize) -> &[Enumeral] {
         let Some(rows) = self.node_enumerals.as_slice().get(node) else {
             return &[];

@@ -1,8 +1,8 @@
 //! An ASN.1 type as data.
 //!
-//! `specs` has the algebra of encoding rules: a definition of a type by its combinators says which
-//! bits encode which parts, the first fault of other bits, and the first misfit of other parts.
-//! [`laws_of_an_example`] states what each such definition keeps.
+//! `specs` has the algebra of encoding rules. Its combinators define which bits encode which parts
+//! of a type, the first fault of other bits, and the first misfit of other parts.
+//! [`laws_of_an_example`] states the laws that each such definition keeps.
 #![tactic(auto)]
 
 mod laws;

@@ -5,7 +5,7 @@
 pub enum MisfitKind {
     /// The parts end before the value does.
     NoPart,
-    /// The part is of another sort than the type asks for.
+    /// The part is of another kind than the values of the type.
     OtherPart,
     /// The part's value is no value of the type, or has no encoding.
     NoEncoding,
@@ -13,7 +13,7 @@ pub enum MisfitKind {
     NoAddition,
     /// A component has its default value, and so must be absent.
     DefaultValue,
-    /// An item of a SET OF is before the one that precedes it.
+    /// An item of a SET OF is less than the item before it.
     NotAscending,
     /// The value exceeds a limit of the encoder.
     Unsupported,

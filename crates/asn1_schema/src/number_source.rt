@@ -11,7 +11,8 @@ pub trait NumberSource {
     fn count(&self) -> usize
         ensures { result ≡ length (list self.now) };
 
-    /// Returns the number at an index, or 2^32 where it is greater.
+    /// Returns the number at an index, or 2^32 if it is greater. The index must be less than
+    /// [`Self::count`].
     fn number(&self, index: usize) -> u64
         requires { index < length (list self.now) }
         ensures { result ≡ min (slice_index (list self.now) index) (2 ^ 32) };

@@ -28,13 +28,13 @@ pub struct Fragments {
     pub at: usize,
     /// How many fragments of 65,536 units there are.
     pub whole: usize,
-    /// The bits of a fragment of 16,384, 32,768 or 49,152 units; none where there is no such one.
+    /// The bits of a fragment of 16,384, 32,768 or 49,152 units; no bits if there is none.
     pub middle: Span,
-    /// The bits of the units that follow, fewer than 16,384.
+    /// The bits of the units after the fragments, fewer than 16,384 units.
     pub last: Span,
 }
 
-/// What the codes of characters tell.
+/// What the codes of characters mean.
 #[derive(Clone, Copy, Debug, PartialEq, Eq)]
 pub enum Codes {
     /// A code is the number of a character.
@@ -52,7 +52,7 @@ pub struct Characters {
     pub count: usize,
     /// How many bits the code of each has.
     pub width: usize,
-    /// What their codes tell.
+    /// What their codes mean.
     pub codes: Codes,
 }
 
@@ -85,7 +85,7 @@ pub enum Part {
     UnknownEnumerated(Natural),
     /// BIT STRING.
     Bits(Span),
-    /// OCTET STRING, or octets that are kept by their contents.
+    /// OCTET STRING, or another type whose value is its contents octets.
     Octets(Span),
     /// OCTET STRING, in fragments.
     OctetsInFragments(Fragments),

@@ -193,7 +193,8 @@ fn is_decimal<S: NumberSource>(source: &S) -> bool
     is_unsigned(source, 1) || (source.number(1) == 45 && is_unsigned(source, 2))
 }
 
-/// Returns whether octets are the contents of a REAL (X.690 8.5, 11.3).
+/// Returns whether octets are the contents of a REAL (X.690 8.5, 11.3). Each number of the source
+/// must be less than 256.
 pub fn is_real<S: NumberSource>(source: &S) -> bool
     requires { AreOctets (S.list source.now) }
     ensures { Decides result (AreReal (S.list source.now)) }

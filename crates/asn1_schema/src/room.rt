@@ -9,8 +9,8 @@ ghost use Rattle.asn1_schema.specs.Room.{IsGrown};
 
 use crate::part::Part;
 
-/// Stores a part after `count` others, where there is room for it. Returns how many there are then,
-/// or `usize::MAX` where there are so many or more.
+/// Stores a part after `count` others, if there is room for it. Returns the new count, or
+/// `usize::MAX` if it would exceed that.
 #[inline(always)]
 pub fn push_part(parts: &mut [Part], count: usize, part: Part) -> usize
     ensures more { count ≤ result }
@@ -24,7 +24,7 @@ pub fn push_part(parts: &mut [Part], count: usize, part: Part) -> usize
     count.saturating_add(1)
 }
 
-/// Replaces the part at an index, where there was room for it.
+/// Replaces the part at an index, if there was room for it.
 #[inline(always)]
 pub fn replace_part(parts: &mut [Part], index: usize, part: Part)
     ensures { (ranges : List Range) (list : List Bool) (was : List Part) (count : ℕ) (p : Piece) (more : Parts)

@@ -2,19 +2,19 @@
 
 ghost use Rattle.std.specs.Prelude.{pos, ◌+ℤ◌, ◌<ℤ◌, ◌^◌};
 
-/// Rows of a table: so many from an index on.
+/// Consecutive rows of a table.
 #[derive(Clone, Copy, Debug, PartialEq, Eq)]
 pub struct Rows {
-    /// The index of the first.
+    /// The index of the first row.
     pub from: usize,
-    /// How many there are.
+    /// How many rows there are.
     pub count: u32,
 }
 
 /// How many units a string may have, or items a list: its effective size constraint (X.680 51.5).
 #[derive(Clone, Copy, Debug, PartialEq, Eq)]
 pub enum Length {
-    /// SIZE (least..MAX), also where there is no SIZE.
+    /// SIZE (least..MAX), also if there is no SIZE.
     AtLeast {
         /// The least length.
         least: usize,
@@ -23,7 +23,7 @@ pub enum Length {
     Between {
         /// The least length.
         least: u32,
-        /// How far the greatest length is from the least.
+        /// The difference of the greatest and the least length.
         range: u32,
     },
 }
@@ -33,7 +33,7 @@ pub enum Length {
 pub struct Bounds {
     /// The least value.
     pub least: i128,
-    /// How far the greatest value is from the least.
+    /// The difference of the greatest and the least value.
     pub range: u128,
     ghost fits: { (least +ℤ pos range) <ℤ pos (2 ^ 127) },
 }
@@ -124,7 +124,7 @@ pub enum Node {
         is_extensible: bool,
         /// The ranges of its alphabet, in ascending order.
         alphabet: Rows,
-        /// The ranges of its type's alphabet, for sizes that are none of the root.
+        /// The ranges of its type's alphabet, for sizes that are not in the root.
         whole: Rows,
     },
     /// SEQUENCE; or SET, whose root has the canonical order of the tags (X.691 21).
@@ -172,7 +172,7 @@ pub enum Node {
     },
 }
 
-/// Characters one after another, by their numbers.
+/// Characters with consecutive numbers.
 #[derive(Clone, Copy, Debug, PartialEq, Eq)]
 pub struct Range {
     /// The first.
@@ -188,7 +188,7 @@ pub enum Presence {
     Mandatory,
     /// OPTIONAL.
     Optional,
-    /// DEFAULT: where it is absent, it has this value, and otherwise another one.
+    /// DEFAULT: if it is absent, it has this value, and otherwise another one.
     Default {
         /// The index of the value among the defaults, of which each encoding rule has its encodings.
         value: usize,

@@ -239,15 +239,15 @@ fn check_members(tables: &Tables<'_>) -> Result<(), TableFault>
     Ok(())
 }
 
-/// Checks tables: the types in their order, and then the components and alternatives. Nothing is
-/// allocated.
+/// Checks the tables of a schema. It does not allocate.
 ///
-/// A type that contains itself without an end is not found: it has no value, and a decoder or an
-/// encoder stops at the depth that its caller allows.
+/// It accepts a type that contains itself without an end. Such a type has no value, and a decoder
+/// or an encoder stops at the depth that its caller allows.
 ///
 /// # Errors
 ///
-/// Returns the first fault.
+/// Returns the first fault: those of the types in their order, and then those of the components and
+/// alternatives.
 pub fn check(tables: &Tables<'_>) -> Result<(), TableFault>
     ensures { MatchResult result (λ _. AreWellFormed tables.now) (IsFirstFault tables.now) }
 {

@@ -52,8 +52,8 @@ fn member_node(message: &Message<'_>, row: usize) -> Option<usize>
 }
 
 impl<'v> Value<'v> {
-    /// Returns the alternative of a CHOICE, and its name. `None` if the value is no CHOICE, or the
-    /// schema has no such alternative or no name of it.
+    /// Returns the alternative of a CHOICE, and its name. `None` if the value is no CHOICE, or if
+    /// the schema has no such alternative or no name of it.
     pub fn choice(&self) -> Option<(&'v [u8], Value<'v>)>
         ensures { MatchOption result
             ((name : List ℕ) (c : Value) → IsChosen self.now name c → ⊥)

@@ -69,10 +69,10 @@ struct Components {
 }
 
 impl<'v> Value<'v> {
-    /// Returns the component with a name. `None` if the value is no SEQUENCE or SET, has no such
-    /// component, or lacks it: where it is absent or has its default value.
+    /// Returns the component with a name. `None` if the value is no SEQUENCE or SET, if it has no
+    /// component with this name, or if the component is absent, as it is with its default value.
     ///
-    /// It goes over the parts of the components before it.
+    /// It reads the parts of the components before it.
     pub fn get(&self, name: &str) -> Option<Value<'v>>
         ensures { MatchOption result ((c : Value) → IsComponent self.now name.now c → ⊥)
             (λ c. IsComponent self.now name.now c) }

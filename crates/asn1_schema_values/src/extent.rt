@@ -26,9 +26,9 @@ fn values_held_by(part: &Part) -> Option<usize>
     }
 }
 
-/// Returns the index after so many values that begin at part `at`. `None` if no part ends them.
+/// Returns the index after `count` values that begin at part `at`. `None` if no part ends them.
 ///
-/// It goes over each of their parts once, whatever their depth.
+/// It reads each of their parts once, whatever their depth.
 pub fn end_of_values(parts: &[Part], at: usize, count: usize) -> Option<usize>
     ensures { MatchOption result ((end : ℕ) → HasValues parts.now at count end → ⊥)
         (λ end. HasValues parts.now at count end) }
@@ -49,7 +49,7 @@ pub fn end_of_values(parts: &[Part], at: usize, count: usize) -> Option<usize>
 
 /// Returns the index after the value that begins at part `at`. `None` if no value begins there.
 ///
-/// It goes over each of its parts once, whatever its depth.
+/// It reads each of its parts once, whatever its depth.
 pub fn end_of(parts: &[Part], at: usize) -> Option<usize>
     ensures { MatchOption result ((end : ℕ) → HasValues parts.now at 1 end → ⊥)
         (λ end. HasValues parts.now at 1 end) }
@@ -57,10 +57,10 @@ pub fn end_of(parts: &[Part], at: usize) -> Option<usize>
     end_of_values(parts, at, 1)
 }
 
-/// Returns how many values the parts from an index on are, one after another. `None` if they are no
-/// values, as where the last one is not whole.
+/// Returns how many values the parts from an index on are, one after another. `None` if they are
+/// not whole values.
 ///
-/// It goes over each of their parts once, whatever their depth.
+/// It reads each of their parts once, whatever their depth.
 pub fn values_from(parts: &[Part], from: usize) -> Option<usize>
     ensures { MatchOption result
         ((count : ℕ) → HasValues parts.now from count (length parts.now) → ⊥)

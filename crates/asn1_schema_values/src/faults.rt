@@ -1,8 +1,8 @@
-//! What can be wrong with tables.
+//! The faults of tables.
 
 use thiserror::Error;
 
-/// What is wrong with a type.
+/// A fault of a type.
 #[derive(Clone, Copy, Debug, PartialEq, Eq, Error)]
 pub enum NodeFault {
     /// The tables have no type of the index that a list or an open type names.
@@ -41,7 +41,7 @@ pub enum NodeFault {
     NotWithin,
 }
 
-/// What is wrong with tables.
+/// A fault of the tables of a schema.
 #[derive(Clone, Copy, Debug, PartialEq, Eq, Error)]
 pub enum TableFault {
     /// A type is not well formed.
@@ -49,7 +49,7 @@ pub enum TableFault {
     Type {
         /// The index of the type.
         row: usize,
-        /// What is wrong with it.
+        /// Its fault.
         fault: NodeFault,
     },
     /// The tables have no type of the index that a component or an alternative names.

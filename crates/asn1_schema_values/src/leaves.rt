@@ -11,7 +11,7 @@ use asn1_bits::BitStr;
 use asn1_schema::{Part, Span};
 
 impl<'v> Value<'v> {
-    /// Returns whether the part says that a component is absent.
+    /// Returns whether the value is an absent component.
     pub fn is_absent(&self) -> bool
         ensures { result ≡ is_absent_part (part_of self.now) }
     {
@@ -31,8 +31,8 @@ impl<'v> Value<'v> {
         }
     }
 
-    /// Returns an INTEGER whose part has its value: one within both bounds of its type. `None` for
-    /// another value.
+    /// Returns the number of an INTEGER that is a [`Part::Integer`](asn1_schema::Part::Integer).
+    /// `None` for another part, also for an INTEGER whose digits are bits of the message.
     pub fn as_i128(&self) -> Option<i128>
         ensures { result ≡ integer_in (part_of self.now) }
     {
@@ -42,7 +42,8 @@ impl<'v> Value<'v> {
         }
     }
 
-    /// Returns the index of an ENUMERATED in its type's table. `None` for another value.
+    /// Returns the index of the value of an ENUMERATED in its type's table. `None` for another
+    /// value.
     pub fn as_enumerated(&self) -> Option<usize>
         ensures { result ≡ enumerated_in (part_of self.now) }
     {

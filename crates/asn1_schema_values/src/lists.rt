@@ -20,9 +20,10 @@ impl<'v> Value<'v> {
         }
     }
 
-    /// Returns the item of an index, from 0 on. `None` if there is none.
+    /// Returns the item at an index, from 0 on. `None` if there is none.
     ///
-    /// It goes over the parts of the items before it. [`Value::next`] goes from an item to the next.
+    /// It reads the parts of the items before it. [`Value::next`] returns the item after another
+    /// one.
     pub fn item(&self, index: usize) -> Option<Value<'v>>
         ensures { MatchOption result ((c : Value) → IsItem self.now index c → ⊥)
             (λ c. IsItem self.now index c) }
@@ -40,8 +41,8 @@ impl<'v> Value<'v> {
         })
     }
 
-    /// Returns the value that follows this one, as one of the same type. It is the next item, where
-    /// this one is an item and not the last.
+    /// Returns the value that follows this one, as one of the same type. It is the next item if this
+    /// one is an item and not the last.
     pub fn next(&self) -> Option<Value<'v>>
         ensures { MatchOption result ((c : Value) → IsNext self.now c → ⊥)
             (λ c. IsNext self.now c) }

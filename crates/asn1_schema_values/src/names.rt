@@ -5,7 +5,7 @@ ghost use Rattle.asn1_schema_values.specs.Names.{IsFirstNamed, IsNotNamed, membe
 
 use asn1_schema::Rows;
 
-/// A name: octets of a text.
+/// A name, as octets of a text.
 #[derive(Clone, Copy, Debug, PartialEq, Eq)]
 pub struct NameSpan {
     /// The index of the first octet.
@@ -14,7 +14,7 @@ pub struct NameSpan {
     pub count: usize,
 }
 
-/// The names of what is in the tables of a schema, each in the same row as there.
+/// The names of the rows of a schema's tables, each in the row with the same index.
 #[derive(Clone, Copy, Debug)]
 pub struct Names<'s> {
     /// The text that has all names.

@@ -5,8 +5,8 @@ use crate::names::Names;
 use asn1_schema::{Node, Part, Rows, Tables};
 use std::{fmt, str};
 
-/// The path to the value that follows some parts: where a decoder found a fault after it made them, or
-/// where an encoder stopped before the next one.
+/// The path to the value that follows some parts: the value at which a decoder found a fault after
+/// these parts, or before which an encoder stopped.
 ///
 /// Its `Display` writes the names of components and alternatives, joined by full stops, and the indexes
 /// of items in brackets, as `extensions[2].critical`. The path to the whole value has no characters.

@@ -5,7 +5,7 @@ ghost use Rattle.std.specs.Prelude.{◌≡◌};
 use crate::names::Names;
 use asn1_schema::{Part, Tables};
 
-/// A message that is decoded: its octets, its parts, and the schema that they are of.
+/// A decoded message: its octets, its parts, and their schema.
 #[derive(Clone, Copy, Debug)]
 pub struct Message<'v> {
     /// The types.
@@ -32,7 +32,7 @@ pub struct Value<'v> {
 impl<'v> Value<'v> {
     ghost use Rattle.asn1_schema_values.specs.Values.{IsAt};
 
-    /// Returns the value that a whole message is, of the type at a node.
+    /// Returns the value of a whole message, which is of the type at a node.
     pub fn whole(message: &'v Message<'v>, node: usize) -> Value<'v>
         ensures { IsAt message.now node 0 result }
     {

@@ -17,16 +17,16 @@ pub enum FaultKind {
     /// A length begins with the octet FF, which is reserved.
     #[error("the first octet of the length is reserved")]
     Reserved,
-    /// An element has another tag or form than the type asks for.
+    /// An element has another tag or form than its type.
     #[error("the element has another tag or form")]
     OtherTag,
-    /// A component that must be present is missing.
+    /// A component that must be present is absent.
     #[error("a component is missing")]
     Missing,
     /// Octets follow the last value.
     #[error("octets follow the last value")]
     Extra,
-    /// The contents octets encode no value of this sort of type.
+    /// The contents octets encode no value of this kind of type.
     #[error("the contents octets are invalid")]
     Contents,
     /// The value violates a constraint, or is no value of an ENUMERATED.
@@ -35,7 +35,7 @@ pub enum FaultKind {
     /// A component is present with its default value.
     #[error("the default value is present")]
     DefaultValue,
-    /// An item of a SET OF is before the one that precedes it.
+    /// An item of a SET OF is less than the item before it (X.690 11.6).
     #[error("the items of a SET OF are not in ascending order")]
     NotAscending,
     /// The tables have no such node, member or tag.

@@ -1,7 +1,8 @@
 //! The encoding rules of X.690.
 //!
-//! [`der`] has the distinguished encoding rules (DER): `specs/Der` says of each type of a schema
-//! which octets encode which parts, and `der::laws_of_types` states what that definition keeps.
+//! [`der`] has the distinguished encoding rules (DER). `specs/Der` defines for each type of a
+//! schema which octets encode which parts, and [`der::laws_of_types`] states the laws of that
+//! definition.
 #![tactic(auto)]
 
 pub mod der;

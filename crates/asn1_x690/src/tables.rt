@@ -24,7 +24,7 @@ pub struct Tag {
     pub number: u64,
 }
 
-/// What the identifier octets of an element tell (X.690 8.1.2).
+/// What the identifier octets of an element encode (X.690 8.1.2).
 #[derive(Clone, Copy, Debug, PartialEq, Eq)]
 pub struct Identifier {
     /// The tag.
@@ -36,7 +36,7 @@ pub struct Identifier {
 /// How many octets each character of a string has.
 #[derive(Clone, Copy, Debug, PartialEq, Eq)]
 pub enum CharacterSize {
-    /// One, as in a string of each type but these two.
+    /// One: every other type.
     One,
     /// Two: BMPString.
     Two,
@@ -44,7 +44,7 @@ pub enum CharacterSize {
     Four,
 }
 
-/// What the rules ask of a type beside its node.
+/// What the rules need of a type beside its node.
 #[derive(Clone, Copy, Debug, PartialEq, Eq)]
 pub struct TypeTags {
     /// The tags of its elements, from the outermost to the innermost, in the table of tags. Each

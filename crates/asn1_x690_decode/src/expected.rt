@@ -9,7 +9,7 @@ use std::fmt;
 /// The most open types that [`Expected`] looks through, one inside the other.
 const OPEN_TYPES: usize = 8;
 
-/// What a type asks for. Its `Display` names the tags with which a value of it begins, as
+/// The tags with which a value of a type begins. Its `Display` writes them, as
 /// `UTCTime or GeneralizedTime`, and the EXPLICIT tags around it, as `INTEGER in [0]`.
 #[derive(Clone, Copy, Debug)]
 pub struct Expected<'s> {

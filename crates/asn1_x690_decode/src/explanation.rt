@@ -12,7 +12,7 @@ use asn1_x690::FaultKind;
 use asn1_x690_fields::{FoundIdentifier, Header, State, next_header};
 use std::fmt;
 
-/// An element that was found.
+/// An element of a message.
 #[derive(Clone, Copy, Debug, PartialEq, Eq)]
 pub struct FoundElement {
     /// The index of its first bit.
@@ -27,15 +27,17 @@ pub struct FoundElement {
 pub struct Explanation<'s> {
     /// The fault.
     pub fault: Fault,
-    /// The element that has another tag or form than the type asks for, or that follows the last value.
-    /// It is absent for other faults, and where no whole element is found.
+    /// The element with another tag or form than its type has, or after the last value. `None` for another
+    /// fault, and if there is no whole element.
     pub found: Option<FoundElement>,
-    /// What the type asks for.
+    /// The tags that were expected.
     pub expected: Expected<'s>,
 }
 
 /// Returns the header of the element that begins at the bit of an index. `None` if no element begins there:
 /// octets are missing, or its identifier or its length is invalid.
+///
+/// There must be fewer than 2^61 octets, and `at` must be at most the number of their bits.
 pub fn header_at(octets: &[u8], at: usize) -> Option<Header>
     requires size { 8 * length octets.now < 2 ^ 64 }
     requires inside { at ≤ 8 * length octets.now }
@@ -103,8 +105,10 @@ fn element_at(octets: &[u8], at: usize) -> Option<FoundElement>
     }
 }
 
-/// Explains the first fault of a message, which [`decode`](crate::decode) returned for it. It reads the
-/// element with the fault again.
+/// Explains a fault that [`decode`](crate::decode) returned for a message. It reads the element at the
+/// fault again.
+///
+/// The message must have fewer than 2^61 octets.
 #[cold]
 pub fn explain<'s>(context: &Context<'s>, fault: Fault) -> Explanation<'s>
     requires { 8 * length context.now.octets.now < 2 ^ 64 }
@@ -139,8 +143,7 @@ pub fn explain<'s>(context: &Context<'s>, fault: Fault) -> Explanation<'s>
 }
 
 impl Explanation<'_> {
-    /// Returns the offset of the first octet of the element that was found. Without one, returns the offset
-    /// of the fault.
+    /// Returns the offset, in octets, of the element that was found, or of the fault if there is none.
     pub fn offset(&self) -> usize
         ensures found { IfSome self.now.found (λ e. result ≡ e.at / 8) }
         ensures absent { IfNone self.now.found (result ≡ self.now.fault.at / 8) }

@@ -16,7 +16,7 @@ use thiserror::Error;
 pub struct Fault {
     /// The node of the schema.
     pub node: usize,
-    /// The index of the bit in the message. It is the first bit of an octet.
+    /// The index of the bit in the message, a multiple of 8.
     pub at: usize,
     /// How many parts were made before it. They lead to the value that has the fault
     /// (`asn1_schema_values::Path`).
@@ -30,7 +30,7 @@ pub struct Fault {
 pub struct Prefix {
     /// How many parts it has.
     pub parts: usize,
-    /// How many bits encode it: those of whole octets.
+    /// How many bits encode it, a multiple of 8.
     pub bits: usize,
 }
 
@@ -50,14 +50,16 @@ fn begin(octets: &[u8], node: usize) -> State
     }
 }
 
-/// Decodes a message: an element that encodes a value of the type at a node, and nothing after it. A
-/// value may be nested less deep than `depth`. `parts` receives the first parts of the value, as many
-/// as it has room for; the result tells how many the value has. The message must have fewer than 2^61
-/// octets.
+/// Decodes a message that is one element (X.690 8.1.1), a value of the type at a node. Returns how
+/// many parts the value has.
+///
+/// `parts` receives the first parts of the value, as many as it has room for. A value that is nested
+/// `depth` levels or deeper is a fault. The message must have fewer than 2^61 octets.
 ///
 /// # Errors
 ///
-/// Returns the first fault of the message.
+/// Returns the first fault of the message. Its kind is [`FaultKind::Extra`] if octets follow the
+/// element.
 pub fn decode(
     context: &Context<'_>,
     depth: usize,
@@ -83,12 +85,12 @@ pub fn decode(
     })
 }
 
-/// Decodes an element that encodes a value of the type at a node from the beginning of a message, as
-/// [`decode`] does. Octets may follow it.
+/// Decodes a value of the type at a node from the beginning of a message, as [`decode`] does. Octets
+/// may follow its element.
 ///
 /// # Errors
 ///
-/// Returns the first fault, as [`decode`] does.
+/// Returns the first fault, as [`decode`] does, but none for the octets after the element.
 pub fn decode_prefix(
     context: &Context<'_>,
     depth: usize,

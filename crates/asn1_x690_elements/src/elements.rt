@@ -15,21 +15,22 @@ use thiserror::Error;
 #[derive(Clone, Copy, Debug, PartialEq, Eq, Error)]
 #[error("bit {at}: {kind}")]
 pub struct Fault {
-    /// The index of the bit. Each fault is at an octet.
+    /// The index of the bit, a multiple of 8.
     pub at: usize,
     /// Why no element is encoded there.
     pub kind: FaultKind,
 }
 
-/// Decodes octets that are elements one after another. The contents of a constructed element are
-/// elements too, nested less deep than `depth`. `elements` receives the headers of the first
-/// elements, each before those in it, as many as it has room for; the result tells how many there
-/// are. There are fewer than 2^61 octets.
+/// Decodes octets that are elements, one after another. Returns how many elements there are, with
+/// those in the contents of constructed elements.
+///
+/// `elements` receives the headers of the first elements, as many as it has room for, each before
+/// those in its contents. There must be fewer than 2^61 octets.
 ///
 /// # Errors
 ///
-/// The first fault, if the octets are no elements: octets are missing, an identifier or a length is
-/// invalid, or an element is nested too deep.
+/// Returns the first fault of the octets: an element or the contents of a constructed element are
+/// nested `depth` levels or deeper, an identifier or a length is invalid, or octets are missing.
 pub fn decode_elements(octets: &[u8], depth: usize, elements: &mut [Header]) -> Result<usize, Fault>
     requires { 8 * length octets.now < 2 ^ 64 }
     ensures ok { IfOk result (λ count. AreElements octets.now depth elements.new count) }

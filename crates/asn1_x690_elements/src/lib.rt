@@ -1,6 +1,6 @@
 //! Decodes DER (X.690).
 //!
-//! [`decode_elements`] walks over the elements of any octets in DER. It asks for no schema.
+//! [`decode_elements`] decodes the elements of any octets in DER, without a schema.
 #![tactic(auto)]
 
 mod elements;

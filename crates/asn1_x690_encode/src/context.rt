@@ -8,7 +8,7 @@ use asn1_x690::{FirstTags, Tag, TagTables, TypeTags};
 use asn1_x691_fields::Defaults;
 use asn1_x691_writers::Writer;
 
-/// A schema, and the parts of a value.
+/// A schema, and the parts of the value to encode.
 #[derive(Clone, Copy, Debug)]
 pub struct Context<'s> {
     /// The types.

@@ -11,8 +11,8 @@ use thiserror::Error;
 /// What was encoded.
 #[derive(Clone, Copy, Debug, PartialEq, Eq)]
 pub struct Encoded {
-    /// How many octets the element has, also where there was no room for them; 2^61 - 1 where it has
-    /// so many or more.
+    /// How many octets the element has, even if there was no room for them; 2^61 - 1 if it has as many
+    /// or more.
     pub octets: usize,
     /// How many parts the value has.
     pub parts: usize,
@@ -30,20 +30,22 @@ pub struct Misfit {
     pub reason: Rejection,
 }
 
-/// Encodes the value of the type at a node that the first parts of a context are, as an element
-/// (X.690 8.1.1). A value may be nested less deep than `depth`. `octets` receives the element; where it
-/// has too few octets for it, the result still tells how many are needed, and the octets have no
-/// meaning. There are fewer than 2^61 octets, in `octets` and in the source.
+/// Encodes the first parts of a context as an element (X.690 8.1.1), a value of the type at a node.
+///
+/// `octets` receives the element. If it has too few octets, the result still has the number that is
+/// needed, and the octets have no meaning. A value that is nested `depth` levels or deeper is a misfit.
+/// `octets` and the source must each have fewer than 2^61 octets, and there must be fewer than 2^64 - 1
+/// parts.
 ///
 /// # Errors
 ///
-/// Returns the first misfit: the part that does not fit the type at a node, and why. The octets have
-/// no meaning then. Two reasons are no misfit:
+/// Returns the first misfit: the part that does not fit the type at a node, and why. The octets have no
+/// meaning then. Two reasons are no misfit:
 ///
-/// - [`Rejection::Unsupported`]: the part is left. What is left is defined in `specs/Encoding`.
+/// - [`Rejection::Unsupported`]: the encoder does not support the part, as `specs/Encoding` defines.
 /// - [`Rejection::NoRoom`]: the part begins a value of more than 504 bits that must be compared with a
-///   default value, or two items of a SET OF of so many, and the octets are too few for them. The node
-///   is that of their type.
+///   default value, or one of two items of a SET OF of more than 504 bits, and the octets are too few
+///   for them. The node is that of their type.
 pub fn encode(
     context: &Context<'_>,
     depth: usize,

@@ -11,7 +11,7 @@ use crate::length::next_length;
 use crate::state::State;
 use asn1_bits::read_bits;
 
-/// What the header of an element tells.
+/// The header of an element.
 #[derive(Clone, Copy, Debug, PartialEq, Eq)]
 pub struct Header {
     /// The identifier.
@@ -22,7 +22,8 @@ pub struct Header {
     pub to: usize,
 }
 
-/// Reads an element: its header, and as many contents octets as it tells.
+/// Reads an element: its header (X.690 8.1.1), and as many contents octets as its length has. Returns
+/// the header.
 #[inline(always)]
 pub fn next_header(octets: &[u8], node: usize, state: &mut State) -> Option<Header>
     requires size { 8 * length octets.now < 2 ^ 64 }

@@ -30,7 +30,7 @@ pub fn next_octet(octets: &[u8], node: usize, state: &mut State) -> Option<u32>
     Some(read_bits(octets, at, 8))
 }
 
-/// Reads so many octets as they are, and returns the index of their first bit.
+/// Reads `count` octets, and returns the index of their first bit.
 #[inline(always)]
 pub fn next_octets(octets: &[u8], count: usize, node: usize, state: &mut State) -> Option<usize>
     requires size { 8 * length octets.now < 2 ^ 64 }

@@ -17,7 +17,7 @@ use asn1_x690::{Class, FaultKind};
 pub struct FoundIdentifier {
     /// The class of the tag.
     pub class: Class,
-    /// The number of the tag, or `None` where 64 bits do not hold it.
+    /// The number of the tag, or `None` if 64 bits do not hold it.
     pub number: Option<u64>,
     /// Whether the contents are elements.
     pub is_constructed: bool,
@@ -113,7 +113,7 @@ pub(crate) fn short_identifier(first: u32) -> FoundIdentifier
     }
 }
 
-/// Returns the next identifier if it is one octet.
+/// Returns the next identifier if it is one octet. It does not read it.
 #[inline(always)]
 pub fn short_identifier_at(octets: &[u8], state: &State) -> Option<FoundIdentifier>
     requires size { 8 * length octets.now < 2 ^ 64 }
@@ -132,7 +132,7 @@ pub fn short_identifier_at(octets: &[u8], state: &State) -> Option<FoundIdentifi
     Some(short_identifier(first))
 }
 
-/// Reads an identifier.
+/// Reads an identifier (X.690 8.1.2).
 #[inline(always)]
 pub fn next_identifier(octets: &[u8], node: usize, state: &mut State) -> Option<FoundIdentifier>
     requires size { 8 * length octets.now < 2 ^ 64 }

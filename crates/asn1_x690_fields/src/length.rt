@@ -40,7 +40,7 @@ fn next_long_length(octets: &[u8], count: usize, node: usize, state: &mut State)
     Some(read_wide(octets, at, 8 * count) as usize)
 }
 
-/// Reads a length. Where it exceeds `usize::MAX`, the result is that.
+/// Reads a length (X.690 8.1.3, 10.1). Returns `usize::MAX` if the length exceeds it.
 #[inline(always)]
 pub fn next_length(octets: &[u8], node: usize, state: &mut State) -> Option<usize>
     requires size { 8 * length octets.now < 2 ^ 64 }

@@ -1,7 +1,8 @@
 //! Reads the fields of X.690 that all its rules share: identifier octets, lengths and headers.
 //!
-//! A call reads from a [`State`]. It returns what it read, or `None`, and then the state has the
-//! first fault. Each contract is exact: it names what `asn1_x690` defines.
+//! A call reads from the next bit of a [`State`] on. It returns what it read, or `None`, and then
+//! the state has the first fault. A message must have fewer than 2^61 octets, and the state must be
+//! inside it. Each contract is exact: it names what `asn1_x690` defines.
 #![tactic(auto)]
 
 mod header;

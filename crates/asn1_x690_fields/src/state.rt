@@ -20,7 +20,7 @@ pub struct State {
     pub kind: FaultKind,
 }
 
-/// Sets a fault before the next bit.
+/// Sets a fault at the next bit.
 #[inline(always)]
 pub fn fail(state: &mut State, node: usize, kind: FaultKind)
     ensures at { state.new.at ≡ state.old.at }

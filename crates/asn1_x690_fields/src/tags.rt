@@ -29,7 +29,7 @@ pub fn is_identifier(found: &FoundIdentifier, tag: Tag, is_constructed: bool) ->
     found.is_constructed == is_constructed && is_tag(found, tag)
 }
 
-/// Returns rows of the table of tags, those that it has.
+/// Returns rows of the table of tags, as far as the table has them.
 pub fn tags_in(table: &[Tag], rows: Rows) -> &[Tag]
     ensures { result.now ≡ rows_of table.now rows }
 {

@@ -56,7 +56,8 @@ fn are_trimmed(octets: &[u8], size: Length, span: Span) -> bool
     read_bits(octets, span.at + span.count - 1, 1) == 1
 }
 
-/// Returns whether bits are as few as their names permit, or have no names.
+/// Returns whether bits have no names, or are as few as their names and the size permit
+/// (X.690 11.2.2).
 pub fn are_bits_permitted(octets: &[u8], has_names: bool, size: Length, span: Span) -> bool
     requires size { 8 * length octets.now < 2 ^ 64 }
     requires inside { span.at + span.count ≤ 8 * length octets.now }
@@ -69,13 +70,13 @@ pub fn are_bits_permitted(octets: &[u8], has_names: bool, size: Length, span: Sp
     true
 }
 
-/// Reads a BIT STRING.
+/// Reads a BIT STRING (X.690 8.6, 11.2).
 ///
 /// # Errors
 ///
-/// Returns [`FaultKind::Contents`] if there is no first octet that tells how many bits are unused,
-/// or if the unused bits are not zeros; and [`FaultKind::NotPermitted`] if there are other bits than
-/// the constraint and the names of bits permit.
+/// Returns [`FaultKind::Contents`] if there is no first octet that has the number of unused bits, or
+/// if the unused bits are not zeros. Otherwise, it returns [`FaultKind::NotPermitted`] if the
+/// constraint or the names of bits do not permit the bits.
 pub fn bit_string(
     octets: &[u8],
     span: Span,

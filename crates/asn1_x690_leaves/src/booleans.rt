@@ -13,7 +13,7 @@ use asn1_bits::read_bits;
 use asn1_schema::{Part, Span};
 use asn1_x690::FaultKind;
 
-/// Reads a BOOLEAN: one octet, 0 or 255.
+/// Reads a BOOLEAN: one octet, 0 or 255 (X.690 8.2, 11.1).
 ///
 /// # Errors
 ///
@@ -37,7 +37,7 @@ pub fn boolean(octets: &[u8], span: Span) -> Result<Part, FaultKind>
     Err(FaultKind::Contents)
 }
 
-/// Reads a NULL: no octets.
+/// Reads a NULL: no octets (X.690 8.8).
 ///
 /// # Errors
 ///

@@ -52,13 +52,14 @@ fn value_of(octets: &[u8], span: Span) -> Option<i128>
     Some(signed_at(octets, span))
 }
 
-/// Reads an ENUMERATED: its part has the index of the number among those of the type. Another number
-/// is kept where the type has an extension marker.
+/// Reads an ENUMERATED (X.690 8.4). The part has the index of the number among those of the type,
+/// or, if the type has an extension marker, any other number.
 ///
 /// # Errors
 ///
-/// Returns [`FaultKind::Contents`] if there is no octet, or a number in more octets than it needs,
-/// and [`FaultKind::NotPermitted`] for another number where the type has no marker.
+/// Returns [`FaultKind::Contents`] if there is no octet, or if the number is not in the minimal
+/// number of octets. Otherwise, it returns [`FaultKind::NotPermitted`] if the type has neither the
+/// number nor an extension marker.
 pub fn enumerated(
     octets: &[u8],
     span: Span,

@@ -33,8 +33,7 @@ fn are_series(octets: &[u8]) -> bool
     !begun
 }
 
-/// Returns whether octets are subidentifiers one after another, of which there is one at least
-/// (8.19.2, 8.20.2).
+/// Returns whether octets are one or more subidentifiers (X.690 8.19.2, 8.20.2).
 #[inline(never)]
 pub fn are_subidentifiers(octets: &[u8], span: Span) -> bool
     requires size { 8 * length octets.now < 2 ^ 64 }
@@ -60,11 +59,11 @@ fn are_between_octets(octets: &[u8], span: Span) -> bool
     are_at_any_bit(octets, span)
 }
 
-/// Reads an OBJECT IDENTIFIER. Its arcs may be of any size.
+/// Reads an OBJECT IDENTIFIER (X.690 8.19). Its arcs may be of any size.
 ///
 /// # Errors
 ///
-/// Returns [`FaultKind::Contents`] if the octets are no subidentifiers, or if there are none.
+/// Returns [`FaultKind::Contents`] if the octets are not one or more subidentifiers.
 #[inline(always)]
 pub fn object_identifier(octets: &[u8], span: Span) -> Result<Part, FaultKind>
     requires size { 8 * length octets.now < 2 ^ 64 }
@@ -78,11 +77,11 @@ pub fn object_identifier(octets: &[u8], span: Span) -> Result<Part, FaultKind>
     Ok(Part::Octets(span))
 }
 
-/// Reads a RELATIVE-OID. Its arcs may be of any size.
+/// Reads a RELATIVE-OID (X.690 8.20). Its arcs may be of any size.
 ///
 /// # Errors
 ///
-/// Returns [`FaultKind::Contents`] if the octets are no subidentifiers, or if there are none.
+/// Returns [`FaultKind::Contents`] if the octets are not one or more subidentifiers.
 pub fn relative_identifier(octets: &[u8], span: Span) -> Result<Part, FaultKind>
     requires size { 8 * length octets.now < 2 ^ 64 }
     requires contents { AreOctetsOf (bits octets.now) span }

@@ -15,8 +15,8 @@ use asn1_schema::{Bounds, LowerBound, Part, Span};
 use asn1_x690::FaultKind;
 use asn1_x691_fields::{is_below, is_between, signed_at};
 
-/// Returns whether octets are a number, and no fewer octets are it: there is one, or the first nine
-/// bits of several differ (X.690 8.3.2).
+/// Returns whether octets are a number in the minimal number of octets: there is one, or the first
+/// nine bits of several differ (X.690 8.3.2).
 pub fn is_minimal(octets: &[u8], span: Span) -> bool
     requires size { 8 * length octets.now < 2 ^ 64 }
     requires contents { AreOctetsOf (bits octets.now) span }
@@ -52,11 +52,12 @@ fn part_of(octets: &[u8], span: Span) -> Part
     Part::Integer(signed_at(octets, span))
 }
 
-/// Reads an INTEGER.
+/// Reads an INTEGER (X.690 8.3).
 ///
 /// # Errors
 ///
-/// Returns [`FaultKind::Contents`] if there is no octet, or a number in more octets than it needs.
+/// Returns [`FaultKind::Contents`] if there is no octet, or if the number is not in the minimal
+/// number of octets.
 pub fn integer(octets: &[u8], span: Span) -> Result<Part, FaultKind>
     requires size { 8 * length octets.now < 2 ^ 64 }
     requires contents { AreOctetsOf (bits octets.now) span }
@@ -68,12 +69,13 @@ pub fn integer(octets: &[u8], span: Span) -> Result<Part, FaultKind>
     Ok(part_of(octets, span))
 }
 
-/// Reads an INTEGER within both bounds. With an extension marker it may be any.
+/// Reads an INTEGER within two bounds. With an extension marker it may be any number.
 ///
 /// # Errors
 ///
-/// Returns [`FaultKind::Contents`] as [`integer`] does, and [`FaultKind::NotPermitted`] if the
-/// number is outside the bounds.
+/// Returns [`FaultKind::Contents`] as [`integer`] does. Otherwise, it returns
+/// [`FaultKind::NotPermitted`] if the number is outside the bounds and there is no extension
+/// marker.
 pub fn integer_between(
     octets: &[u8],
     span: Span,
@@ -94,12 +96,12 @@ pub fn integer_between(
     Ok(part_of(octets, span))
 }
 
-/// Reads an INTEGER from a lower bound on. With an extension marker it may be any.
+/// Reads an INTEGER from a lower bound on. With an extension marker it may be any number.
 ///
 /// # Errors
 ///
-/// Returns [`FaultKind::Contents`] as [`integer`] does, and [`FaultKind::NotPermitted`] if the
-/// number is below the bound.
+/// Returns [`FaultKind::Contents`] as [`integer`] does. Otherwise, it returns
+/// [`FaultKind::NotPermitted`] if the number is below the bound and there is no extension marker.
 pub fn integer_at_least(
     octets: &[u8],
     span: Span,

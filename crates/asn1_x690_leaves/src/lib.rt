@@ -1,7 +1,8 @@
 //! Reads the contents octets of the types of one part, as DER has them (X.690 8, 11).
 //!
-//! A call takes the octets of a message and the bits of it that are the contents. It returns the
-//! part, or the kind of the fault before them.
+//! A call takes the octets of a message and the span of the contents octets. It returns the part,
+//! or the kind of the fault. The message must have fewer than 2^61 octets, and the span must be
+//! whole octets inside it.
 #![tactic(auto)]
 
 mod bit_strings;

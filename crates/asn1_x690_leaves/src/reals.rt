@@ -14,7 +14,7 @@ use asn1_schema::{Part, Span};
 use asn1_x690::FaultKind;
 use asn1_x691_fields::is_real_at;
 
-/// Reads a REAL, which is kept by its contents octets.
+/// Reads a REAL (X.690 8.5, 11.3). The part has its contents octets.
 ///
 /// # Errors
 ///

@@ -5,7 +5,7 @@ ghost use Rattle.asn1_x690.specs.Leaves.{HasSize, least_of as least_in};
 
 use asn1_schema::Length;
 
-/// Returns whether a size is one of a constraint. With an extension marker each is.
+/// Returns whether a constraint permits a size. One with an extension marker permits any size.
 #[inline(always)]
 pub fn has_size(is_extensible: bool, size: Length, count: usize) -> bool
     ensures yes { result ≡ true → HasSize is_extensible size count }

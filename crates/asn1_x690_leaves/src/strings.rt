@@ -14,11 +14,11 @@ use asn1_schema::{Length, Part, Span};
 use asn1_x690::FaultKind;
 use asn1_x691_fields::is_utf8;
 
-/// Reads an OCTET STRING.
+/// Reads an OCTET STRING (X.690 8.7).
 ///
 /// # Errors
 ///
-/// Returns [`FaultKind::NotPermitted`] if it has another size than its constraint permits.
+/// Returns [`FaultKind::NotPermitted`] if the constraint does not permit its size.
 #[inline(always)]
 pub fn octet_string(
     octets: &[u8],
@@ -37,7 +37,7 @@ pub fn octet_string(
     Ok(Part::Octets(span))
 }
 
-/// Reads a UTF8String.
+/// Reads a UTF8String (X.690 8.23.10).
 ///
 /// # Errors
 ///

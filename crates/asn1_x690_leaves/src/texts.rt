@@ -66,7 +66,8 @@ fn are_numbers_in(octets: &[u8], text: Characters, ranges: &[Range]) -> bool
     true
 }
 
-/// Returns whether characters are all in an alphabet.
+/// Returns whether an alphabet has all of the characters. Each must have from 1 to 32 bits, and all
+/// must be inside the octets.
 pub fn are_in(octets: &[u8], text: Characters, ranges: &[Range]) -> bool
     requires size { 8 * length octets.now < 2 ^ 64 }
     requires some { 0 < text.width }
@@ -112,12 +113,12 @@ fn is_text(
     has_size(false, size, text.count) && are_in(octets, text, alphabet)
 }
 
-/// Reads a string of characters. With an extension marker its characters are those of its type
-/// without a constraint, and it may have any size.
+/// Reads a string of characters (X.690 8.23). With an extension marker it may have any size, and
+/// the characters of its type without a constraint.
 ///
 /// # Errors
 ///
-/// Returns [`FaultKind::Contents`] if the octets are not so many for each character, and
+/// Returns [`FaultKind::Contents`] if the octets are not whole characters. Otherwise, it returns
 /// [`FaultKind::NotPermitted`] if a character or the size is not permitted.
 pub fn text(
     octets: &[u8],

@@ -13,12 +13,12 @@ use asn1_schema::{Characters, Codes, Part, Span, TimeKind};
 use asn1_x690::FaultKind;
 use asn1_x691_fields::is_time_at;
 
-/// Reads a time of this kind.
+/// Reads a UTCTime or a GeneralizedTime (X.690 8.25, 11.7, 11.8).
 ///
 /// # Errors
 ///
-/// Returns [`FaultKind::Contents`] if the octets are no time in canonical form: of another form, or
-/// of a day or a time of day that does not exist.
+/// Returns [`FaultKind::Contents`] if the octets are no time in canonical form, or if the day or
+/// the time of day does not exist.
 pub fn time(octets: &[u8], span: Span, kind: TimeKind) -> Result<Part, FaultKind>
     requires size { 8 * length octets.now < 2 ^ 64 }
     requires contents { AreOctetsOf (bits octets.now) span }

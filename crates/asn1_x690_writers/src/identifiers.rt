@@ -38,7 +38,7 @@ fn first_octet(id: Identifier, low: u64) -> u64
     64 * class_bits(id.tag.class) + form + low
 }
 
-/// Writes identifier octets. Returns the index after them.
+/// Writes identifier octets (X.690 8.1.2). Returns the index of the bit after them.
 #[inline(always)]
 pub fn put_identifier(octets: &mut [u8], at: usize, id: &Identifier) -> usize
     requires { 8 * length octets.old < 2 ^ 64 }

@@ -16,7 +16,8 @@ use asn1_schema::{MisfitKind, Node, Part, Range};
 use asn1_x690::TypeTags;
 use asn1_x691_writers::{ContentsKind, Writer, reject};
 
-/// Writes the contents octets of a part, as a value of a type of one part.
+/// Writes the contents octets of a part, as a value of a type of one part. Returns whether it did.
+/// If it returns `false`, the state has the reason.
 pub fn put_leaf(
     octets: &mut [u8],
     ranges: &[Range],

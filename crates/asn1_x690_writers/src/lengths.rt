@@ -66,8 +66,11 @@ fn move_contents(octets: &mut [u8], count: usize, first: usize)
     }
 }
 
-/// Writes the length of `count` contents octets before them. The contents follow the first octet;
-/// they are moved where their length takes more than one octet. Returns how many bits the length has.
+/// Writes the length of `count` contents octets before them (X.690 8.1.3, 10.1). Returns how many
+/// bits the length has.
+///
+/// The contents must begin at the second octet. They are moved if their length takes more than one
+/// octet.
 #[inline(always)]
 pub fn put_length_before(octets: &mut [u8], count: usize) -> usize
     requires size { 8 * length octets.old < 2 ^ 64 }

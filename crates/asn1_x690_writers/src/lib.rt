@@ -1,8 +1,9 @@
 //! Writes the fields of X.690: identifier octets, lengths, and the contents octets of values of one
 //! part.
 //!
-//! A call writes to octets of its caller, and allocates nothing. Where they are too few, it counts
-//! on: it returns the index that it would have reached with enough of them.
+//! A call writes to the octets of its caller, and does not allocate. If they are too few, it
+//! returns the index that it would have reached with enough of them. The octets, and those of a
+//! source, must be fewer than 2^61.
 #![tactic(auto)]
 
 mod bit_strings;

@@ -34,8 +34,10 @@ fn store(octets: &mut [u8], first: usize, own: &[u8])
     front.copy_from_slice(own);
 }
 
-/// Writes `count` bits of a source from bit `at` on, and returns the index after them. Where both
-/// begin at octets, it copies these.
+/// Writes `count` bits of a source, from bit `from` on, to bit `at`. Returns the index of the bit
+/// after them.
+///
+/// The bits must be inside the source. It copies octets if both begin at an octet.
 pub fn put_span(octets: &mut [u8], at: usize, source: &[u8], from: usize, count: usize) -> usize
     requires size { 8 * length octets.old < 2 ^ 64 }
     requires within { from + count ≤ 8 * length source.now }

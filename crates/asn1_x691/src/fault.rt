@@ -36,10 +36,10 @@ pub enum FaultKind {
     /// A component is present with its default value.
     #[error("the default value is present")]
     DefaultValue,
-    /// An item of a SET OF is before the one that precedes it.
+    /// An item of a SET OF is less than the item before it (X.691 22.1).
     #[error("the items of a SET OF are not in ascending order")]
     NotAscending,
-    /// Bits with names end in a zero that their size does not ask for.
+    /// Bits with names end in a zero that their size does not require.
     #[error("bits with names end in a zero")]
     NotTrimmed,
     /// A character is not in the alphabet.

@@ -15,8 +15,8 @@ ghost use Rattle.asn1_x691.specs.Types.{type_at};
 ghost use Rattle.asn1_x691.specs.Example.{integer, opened, opened_five, example_nodes, example_members, no_defaults, example_parts, example_bits};
 ghost use Rattle.asn1_x691.specs.Fields.{phase, constrained, length_of, small_length, semi_constrained, small_number, unconstrained};
 
-/// States what holds of a constrained whole number (X.691 11.5), in both variants, at each position
-/// of a message; it does nothing.
+/// States what holds of a constrained whole number (X.691 11.5), in both variants, at each position of
+/// a message. It does nothing.
 pub fn laws_of_constrained()
     // Bits begin with one number at most, which ends at one place.
     ensures decodes_one { (aligned : Bool) (range node at : ℕ)
@@ -45,7 +45,8 @@ pub fn laws_of_small_length()
     ensures encodes_one { (aligned : Bool) (node at : ℕ) → EncodesOne (small_length aligned node at).encodes }
 {}
 
-/// States the same of a whole number from 0 on, in the fewest octets after their number (X.691 11.7).
+/// States the same of a whole number from 0 on, in the minimal number of octets after their number
+/// (X.691 11.7).
 pub fn laws_of_semi_constrained()
     ensures decodes_one { (aligned : Bool) (node at : ℕ) → DecodesOne (semi_constrained aligned node at).encodes }
     ensures fault { (aligned : Bool) (node at : ℕ)
@@ -61,7 +62,8 @@ pub fn laws_of_small_number()
     ensures encodes_one { (aligned : Bool) (node at : ℕ) → EncodesOne (small_number aligned node at).encodes }
 {}
 
-/// States the same of a whole number of any sign, in the fewest octets after their number (X.691 11.8).
+/// States the same of a whole number of any sign, in the minimal number of octets after their number
+/// (X.691 11.8).
 pub fn laws_of_unconstrained()
     ensures decodes_one { (aligned : Bool) (node at : ℕ) → DecodesOne (unconstrained aligned node at).encodes }
     ensures fault { (aligned : Bool) (node at : ℕ)
@@ -69,7 +71,7 @@ pub fn laws_of_unconstrained()
     ensures encodes_one { (aligned : Bool) (node at : ℕ) → EncodesOne (unconstrained aligned node at).encodes }
 {}
 
-/// States the same of octets after their length (X.691 17.8), in so many fragments at most.
+/// States the same of octets after their length (X.691 17.8), in at most `most` fragments.
 pub fn laws_of_octets()
     ensures decodes_one { (most : ℕ) (aligned : Bool) (node at : ℕ) → DecodesOne (octets most aligned node at).encodes }
     ensures fault { (most : ℕ) (aligned : Bool) (node at : ℕ)
@@ -77,8 +79,8 @@ pub fn laws_of_octets()
     ensures encodes_one { (most : ℕ) (aligned : Bool) (node at : ℕ) → EncodesOne (octets most aligned node at).encodes }
 {}
 
-/// States the same of units of so many bits after their number, which is in fragments from 16,384
-/// units on (X.691 11.9.3.5 to 11.9.3.8): BIT STRING and OCTET STRING without an upper bound.
+/// States the same of units of `unit` bits after their number, in fragments from 16,384 units on
+/// (X.691 11.9.3.5 to 11.9.3.8): BIT STRING and OCTET STRING without an upper bound.
 pub fn laws_of_string()
     ensures decodes_one { (most : ℕ) (aligned : Bool) (unit node at : ℕ)
         → DecodesOne (string most aligned unit node at).encodes }

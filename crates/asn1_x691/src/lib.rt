@@ -1,8 +1,8 @@
 //! The packed encoding rules of X.691, canonical, in both variants.
 //!
-//! `specs/Fields` has the fields that values are encoded by: numbers, lengths, strings of octets;
-//! `specs/OpenTypes` has complete encodings and open types.
-//! A parameter tells the ALIGNED variant from the UNALIGNED one.
+//! `specs/Fields` defines the fields of encodings: numbers, lengths and strings of octets.
+//! `specs/OpenTypes` defines complete encodings and open types. A parameter selects the ALIGNED or
+//! the UNALIGNED variant.
 #![tactic(auto)]
 
 mod fault;

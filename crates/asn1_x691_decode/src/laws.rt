@@ -12,9 +12,10 @@ ghost use Rattle.asn1_x691_decode.specs.Decoding.{decoder_limits, types};
 ghost use Rattle.asn1_x691_decode.specs.Messages.{unlimited_types};
 
 /// States that the limits of [`decode`](crate::decode) and [`decode_prefix`](crate::decode_prefix)
-/// only reject: what they accept X.691 encodes so, and a first fault that they return is that of
-/// X.691, unless its kind is [`FaultKind::Unsupported`](asn1_x691::FaultKind::Unsupported). It does
-/// nothing.
+/// only reject. It does nothing.
+///
+/// What they accept is an encoding by X.691 without the limits. A first fault that they return is
+/// that of X.691, unless its kind is [`FaultKind::Unsupported`](asn1_x691::FaultKind::Unsupported).
 pub fn laws_of_limits()
     ensures limits { AreWithin decoder_limits }
     // A message that is the complete encoding of these parts within the limits is so without them.

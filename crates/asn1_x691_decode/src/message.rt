@@ -54,15 +54,16 @@ fn begin(octets: &[u8], node: usize) -> State
     }
 }
 
-/// Decodes a message that is the complete encoding (X.691 11.1) of a value of the type at a node. A
-/// value may be nested less deep than `depth`. `parts` receives the first parts of the value, as
-/// many as it has room for; the result tells how many the value has. The message has fewer than 2^61
-/// octets.
+/// Decodes a message that is the complete encoding (X.691 11.1) of a value of the type at a node.
+/// Returns how many parts the value has.
+///
+/// `parts` receives the first parts of the value, as many as it has room for. A value that is
+/// nested `depth` levels or deeper is a fault. The message must have fewer than 2^61 octets.
 ///
 /// # Errors
 ///
-/// Returns the first fault of the message. The kind [`FaultKind::Unsupported`] says that a length,
-/// other than that of an OCTET STRING, has a fragment (X.691 11.9.3.8), or that an item of a SET OF
+/// Returns the first fault of the message. The kind is [`FaultKind::Unsupported`] if a length,
+/// other than that of an OCTET STRING, has a fragment (X.691 11.9.3.8), or if an item of a SET OF
 /// does not begin at an octet in the ALIGNED variant.
 pub fn decode(
     context: &Context<'_>,
@@ -95,7 +96,7 @@ pub fn decode(
 ///
 /// # Errors
 ///
-/// Returns the first fault, as [`decode`] does.
+/// Returns the first fault, as [`decode`] does, but none for the bits after the value.
 pub fn decode_prefix(
     context: &Context<'_>,
     depth: usize,

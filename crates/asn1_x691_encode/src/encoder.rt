@@ -29,9 +29,12 @@ fn node_at(nodes: &[Node], node: usize) -> Option<Node>
     }
 }
 
-/// Encodes a value of the type at a node: writes to `octets` from the next bit of the state on, and
-/// takes its parts from the next one on. Returns whether it did. Otherwise the state has the reason,
-/// and the next part is the one that does not fit. A value may be nested less deep than `depth`.
+/// Encodes the next parts as a value of the type at a node. Returns whether it did.
+///
+/// It writes to `octets` from the next bit of the state on, and reads from the next part of the
+/// state on. If it returns `false`, the state has the reason, and its next part is the one that does
+/// not fit. A value that is nested `depth` levels or deeper is a misfit. `octets` and the source
+/// must each have fewer than 2^61 octets, and there must be fewer than 2^64 - 1 parts.
 #[cycle(encoding)]
 pub fn encode_node(
     context: &Context<'_>,

@@ -1,7 +1,7 @@
 //! Encodes values by a schema, by the packed encoding rules (X.691).
 //!
-//! `specs/Encoding` says what a call did: it wrote an encoding of the next parts, or it names the
-//! first misfit, or the part that it leaves.
+//! `specs/Encoding` defines the outcome of a call: an encoding of the next parts, the first misfit,
+//! or the part that is not supported.
 #![tactic(auto)]
 
 mod added_choice;

@@ -12,8 +12,8 @@ use thiserror::Error;
 /// What was encoded.
 #[derive(Clone, Copy, Debug, PartialEq, Eq)]
 pub struct Encoded {
-    /// How many octets the message has, also where there was no room for them; 2^61 - 1 where it has
-    /// so many or more.
+    /// How many octets the message has, even if there was no room for them; 2^61 - 1 if it has as many
+    /// or more.
     pub octets: usize,
     /// How many parts the value has.
     pub parts: usize,
@@ -31,22 +31,25 @@ pub struct Misfit {
     pub reason: Rejection,
 }
 
-/// Encodes a message: the complete encoding (X.691 11.1) of the value of the type at a node that the
-/// first parts of a context are. A value may be nested less deep than `depth`. `octets` receives the
-/// message; where it has too few octets for it, the result still tells how many are needed, and the
-/// octets have no meaning. There are fewer than 2^61 octets, in `octets` and in the source.
+/// Encodes the first parts of a context as a message: the complete encoding (X.691 11.1) of a value of
+/// the type at a node.
+///
+/// `octets` receives the message. If it has too few octets, the result still has the number that is
+/// needed, and the octets have no meaning. A value that is nested `depth` levels or deeper is a
+/// misfit. `octets` and the source must each have fewer than 2^61 octets, and there must be fewer than
+/// 2^64 - 1 parts.
 ///
 /// # Errors
 ///
 /// Returns the first misfit: the part that does not fit the type at a node, and why. The octets have
 /// no meaning then. Two reasons are no misfit:
 ///
-/// - [`Rejection::Unsupported`]: the part is left. It begins an open type of 16,384 octets or more, or
-///   is an identifier or UTF-8 in fragments, an INTEGER or an index that is too large, or begins an
-///   item of a SET OF that does not begin at an octet in the ALIGNED variant.
+/// - [`Rejection::Unsupported`]: the encoder does not support the part. It begins an open type of
+///   16,384 octets or more, is an identifier or UTF-8 in fragments, is an INTEGER or an index that is
+///   too large, or begins an item of a SET OF that does not begin at an octet in the ALIGNED variant.
 /// - [`Rejection::NoRoom`]: the part begins a value of more than 504 bits that must be compared, and
-///   the octets are too few for it: a component with its default value, an item of a SET OF with the
-///   item before it.
+///   the octets are too few for it: a component with its default value, or an item of a SET OF with
+///   the item before it.
 pub fn encode(
     context: &Context<'_>,
     depth: usize,

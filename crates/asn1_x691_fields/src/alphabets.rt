@@ -19,7 +19,7 @@ pub struct Alphabet<'s> {
     pub is_aligned: bool,
     /// How many bits a code has.
     pub width: usize,
-    /// Whether a code is the number of the character, and otherwise its index.
+    /// Whether a code is the number of the character. Otherwise it is its index.
     pub are_numbers: bool,
     /// How many characters there are.
     pub count: u128,
@@ -39,7 +39,7 @@ pub fn alphabet_of(ranges: &[Range], is_aligned: bool) -> Alphabet<'_>
     alphabet_of_few(ranges, is_aligned)
 }
 
-/// Returns the alphabet of fewer than 2^32 ranges.
+/// Returns the alphabet of ranges, which must be fewer than 2^32.
 #[inline(always)]
 pub fn alphabet_of_few(ranges: &[Range], is_aligned: bool) -> Alphabet<'_>
     requires { length ranges.now < 2 ^ 32 }
@@ -78,7 +78,7 @@ fn alphabet_of_many(ranges: &[Range], is_aligned: bool) -> Alphabet<'_>
     }
 }
 
-/// Returns rows of the table of ranges, those that it has.
+/// Returns rows of the table of ranges, as far as the table has them.
 #[inline(always)]
 pub fn ranges_in(table: &[Range], rows: Rows) -> &[Range]
     ensures { result.now ≡ rows_of table.now rows }
@@ -150,7 +150,7 @@ fn are_up_to(ranges: &[Range], most: u128) -> bool
     true
 }
 
-/// Returns whether a character is in an alphabet.
+/// Returns whether an alphabet has a character.
 pub fn is_in(ranges: &[Range], character: u128) -> bool
     ensures yes { result ≡ true → IsIn ranges.now character }
     ensures no { result ≡ false → IsIn ranges.now character → ⊥ }

@@ -11,8 +11,8 @@ use crate::bits::number_at;
 use crate::code_words::{Interval, NARROW, are_in};
 use asn1_schema::Range;
 
-/// Returns whether so many codes, from bit `at` on, are all of characters. A code must have at most
-/// 57 bits.
+/// Returns whether `count` codes, from bit `at` on, are all those of characters. A code must have at
+/// most 57 bits.
 pub fn are_codes(octets: &[u8], alphabet: &Alphabet<'_>, at: usize, count: usize) -> bool
     requires size { 8 * length octets.now < 2 ^ 64 }
     requires alphabet { IsAlphabet alphabet.now }
@@ -29,8 +29,8 @@ pub fn are_codes(octets: &[u8], alphabet: &Alphabet<'_>, at: usize, count: usize
     }
 }
 
-/// Returns whether so many codes, from bit `at` on, are all of characters, if it is quick to tell, and
-/// otherwise `false`.
+/// Returns whether `count` codes, from bit `at` on, are all those of characters, if that is quick to
+/// find. Otherwise it returns `false`.
 #[inline(always)]
 pub fn are_quick_codes(octets: &[u8], alphabet: &Alphabet<'_>, at: usize, count: usize) -> bool
     requires size { 8 * length octets.now < 2 ^ 64 }

@@ -8,8 +8,8 @@ ghost use Rattle.asn1_x691_fields.specs.Characters.{IsAlphabet};
 use crate::alphabets::{Alphabet, ascending_at, count_below, first_past};
 use asn1_schema::Range;
 
-/// Returns the character of an index among those of ranges, in ascending order, or the number after
-/// all of them where there are fewer. An index of 2^128 or more is passed as 2^128 - 1.
+/// Returns the character at an index among those of ranges, in ascending order, or the number after
+/// all of them if they are fewer. An index of 2^128 or more must be passed as 2^128 - 1.
 pub fn character_at(ranges: &[Range], index: u128) -> u64
     ensures value { (i : ℕ) → index ≡ min i (2 ^ 128 - 1) → result ≡ character_in ranges.now i }
     ensures most { result ≤ 2 ^ 32 }
@@ -22,7 +22,8 @@ pub fn character_at(ranges: &[Range], index: u128) -> u64
     first_past(ranges, index)
 }
 
-/// Returns the code of a character: its number, or its index in ascending order.
+/// Returns the code of a character: its number, or its index in ascending order. The alphabet must
+/// have the character.
 pub fn code_of(alphabet: &Alphabet<'_>, character: u64) -> u128
     requires is { IsAlphabet alphabet.now }
     requires within { IsIn alphabet.now.ranges.now character }

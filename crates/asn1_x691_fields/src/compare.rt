@@ -48,7 +48,7 @@ fn are_bits(octets: &[u8], span: Span, bits: BitStr<'_>) -> bool
     }
 }
 
-/// Returns whether the bits of a message from one index to another are those of a default value.
+/// Returns whether the bits of a message from one index up to another are those of a default value.
 /// `position` is the number of bits before them in the complete encoding.
 #[tactic(auto, unfolding(asn1_bits::specs::View::list_of))]
 pub fn is_default(
@@ -75,8 +75,8 @@ pub fn is_default(
     }
 }
 
-/// Returns whether the bits of an item are before those of the item that it follows. The items begin
-/// at `before` and at `from`, and the second ends at `to`.
+/// Returns whether the bits of an item are less than those of the item before it. The items begin at
+/// `before` and at `from`, and the second ends at `to`.
 #[tactic(auto, unfolding(asn1_bits::specs::View::list_of))]
 pub fn is_before(octets: &[u8], before: usize, from: usize, to: usize) -> bool
     requires begins { before ≤ from }

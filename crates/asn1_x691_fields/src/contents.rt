@@ -15,7 +15,7 @@ use crate::strings::next_octets;
 use asn1_schema::{Part, Span};
 use asn1_x691::FaultKind;
 
-/// Reads an OBJECT IDENTIFIER by its contents octets (X.691 24, X.690 8.19).
+/// Reads an OBJECT IDENTIFIER (X.691 24, X.690 8.19). The part has its contents octets.
 pub fn next_object_identifier(
     octets: &[u8],
     is_aligned: bool,
@@ -37,7 +37,7 @@ pub fn next_object_identifier(
     Some(Part::Octets(contents))
 }
 
-/// Reads a RELATIVE-OID by its contents octets (X.691 25, X.690 8.20).
+/// Reads a RELATIVE-OID (X.691 25, X.690 8.20). The part has its contents octets.
 pub fn next_relative_identifier(
     octets: &[u8],
     is_aligned: bool,
@@ -59,8 +59,8 @@ pub fn next_relative_identifier(
     Some(Part::Octets(span))
 }
 
-/// Returns whether octets of a message, which may begin at any bit, are subidentifiers one after
-/// another, of which there is one at least (X.690 8.19.2, 8.20.2).
+/// Returns whether octets of a message are one or more subidentifiers (X.690 8.19.2, 8.20.2). They
+/// may begin at any bit, and must be inside the message.
 pub fn are_subidentifiers(message: &[u8], span: Span) -> bool
     requires size { 8 * length message.now < 2 ^ 64 }
     requires inside { span.at + span.count ≤ 8 * length message.now }

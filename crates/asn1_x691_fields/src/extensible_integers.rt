@@ -93,8 +93,8 @@ fn next_outside(
     Some(Part::Signed(span))
 }
 
-/// Reads an INTEGER that has a least value alone, and that may have an extension marker
-/// (X.691 13.1, 13.2.3).
+/// Reads an INTEGER with a lower bound alone, which may have an extension marker (X.691 13.1,
+/// 13.2.3).
 pub fn next_integer_at_least_by(
     octets: &[u8],
     is_aligned: bool,

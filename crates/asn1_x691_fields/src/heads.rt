@@ -14,7 +14,7 @@ use crate::state::{State, fail};
 use asn1_bits::read_wide;
 use asn1_x691::FaultKind;
 
-/// Reads a number of `width` bits, at most 57 (X.691 11.3).
+/// Reads a number of `width` bits, which must be at most 57 (X.691 11.3).
 #[inline(always)]
 pub fn next_word(octets: &[u8], width: usize, node: usize, state: &mut State) -> Option<u64>
     requires size { 8 * length octets.now < 2 ^ 64 }
@@ -52,7 +52,7 @@ pub fn next_wide(octets: &[u8], width: usize, node: usize, state: &mut State) ->
     Some(read_wide(octets, at, width))
 }
 
-/// Reads so many bits as they are, and returns the index of the first.
+/// Reads `count` bits, and returns the index of the first.
 #[inline(always)]
 pub fn next_bits(octets: &[u8], count: usize, node: usize, state: &mut State) -> Option<usize>
     requires size { 8 * length octets.now < 2 ^ 64 }
@@ -86,7 +86,7 @@ pub fn next_bit(octets: &[u8], node: usize, state: &mut State) -> Option<bool>
     }
 }
 
-/// Reads the zeros up to the next octet in the ALIGNED variant (X.691 11.2.6, 11.5.7, 11.9.3.3).
+/// Reads the zeros before the next octet in the ALIGNED variant (X.691 11.2.6, 11.5.7, 11.9.3.3).
 #[inline(always)]
 pub fn next_start(octets: &[u8], is_aligned: bool, node: usize, state: &mut State) -> Option<()>
     requires size { 8 * length octets.now < 2 ^ 64 }

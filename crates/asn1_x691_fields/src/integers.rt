@@ -12,7 +12,7 @@ use crate::state::State;
 use crate::unbounded::{next_semi_constrained, next_unconstrained};
 use asn1_schema::{Bounds, LowerBound, Part};
 
-/// Reads an INTEGER between two bounds, by its distance from the least value (X.691 13.2.2).
+/// Reads an INTEGER between two bounds, as its distance from the least value (X.691 13.2.2).
 pub fn next_integer_between(
     octets: &[u8],
     is_aligned: bool,
@@ -31,7 +31,7 @@ pub fn next_integer_between(
     Some(Part::Integer(above(bounds.least, n)))
 }
 
-/// Reads an INTEGER that has a least value alone, by its distance from it (X.691 13.2.3).
+/// Reads an INTEGER with a lower bound alone, as its distance from that bound (X.691 13.2.3).
 pub fn next_integer_at_least(
     octets: &[u8],
     is_aligned: bool,
@@ -54,7 +54,7 @@ pub fn next_integer_at_least(
     })
 }
 
-/// Reads an INTEGER without a least value (X.691 13.2.4).
+/// Reads an INTEGER without a lower bound (X.691 13.2.4).
 pub fn next_integer(octets: &[u8], is_aligned: bool, node: usize, state: &mut State) -> Option<Part>
     requires size { 8 * length octets.now < 2 ^ 64 }
     requires within { IsWithin (bits octets.now) state.old }

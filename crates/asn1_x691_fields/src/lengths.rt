@@ -62,7 +62,7 @@ fn next_length_after(octets: &[u8], first: u64, node: usize, state: &mut State) 
     Some(count as usize)
 }
 
-/// Reads a length below 16,384, where most are from 1 to 64 (X.691 11.9.3.4).
+/// Reads a normally small length, below 16,384 (X.691 11.9.3.4).
 pub fn next_small_length(
     octets: &[u8],
     is_aligned: bool,

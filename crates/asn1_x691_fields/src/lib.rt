@@ -1,6 +1,8 @@
 //! Reads the fields of the packed encoding rules (X.691): numbers, lengths and strings.
 //!
-//! `specs/Outcomes` says what a call did to the [`State`] of a decoder.
+//! A call reads from the next bit of a [`State`] on. It returns what it read, or `None`, and then
+//! the state has the first fault. A message must have fewer than 2^61 octets, and the state must be
+//! inside it. `specs/Outcomes` defines what a call did to the state.
 #![tactic(auto)]
 
 mod alphabets;

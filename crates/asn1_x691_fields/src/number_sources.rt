@@ -23,7 +23,8 @@ pub struct NumbersAt<'s> {
 impl<'s> NumbersAt<'s> {
     ghost use Rattle.asn1_x691_fields.specs.NumberSources.{numbers_of};
 
-    /// Returns so many numbers of `width` bits each, from bit `at` on.
+    /// Returns `count` numbers of `width` bits each, from bit `at` on. `width` must be at most 32,
+    /// and the numbers must be inside the octets.
     #[inline(always)]
     pub fn new(octets: &'s [u8], at: usize, width: usize, count: usize) -> Self
         requires narrow { width ≤ 32 }

@@ -21,7 +21,7 @@ pub fn width_to(range: u128) -> usize
     (128 - range.leading_zeros()) as usize
 }
 
-/// Returns the number that is so far above the least.
+/// Returns the sum of the least value and `n`. It must be less than 2^127.
 #[inline(always)]
 pub fn above(least: i128, n: u128) -> i128
     requires { (least +ℤ pos n) <ℤ pos (2 ^ 127) }
@@ -30,7 +30,7 @@ pub fn above(least: i128, n: u128) -> i128
     least.wrapping_add_unsigned(n)
 }
 
-/// Reads a number of `width` bits, at most 128 (X.691 11.3).
+/// Reads a number of `width` bits, which must be at most 128 (X.691 11.3).
 #[inline(always)]
 pub fn next_number(octets: &[u8], width: usize, node: usize, state: &mut State) -> Option<u128>
     requires size { 8 * length octets.now < 2 ^ 64 }
@@ -49,7 +49,7 @@ pub fn next_number(octets: &[u8], width: usize, node: usize, state: &mut State) 
     }
 }
 
-/// Reads a number from 0 to `most` of `width` bits (X.691 11.3).
+/// Reads a number from 0 to `most` of `width` bits, which must be at most 128 (X.691 11.3).
 #[inline(always)]
 pub fn next_in_bits(
     octets: &[u8],
@@ -73,8 +73,8 @@ pub fn next_in_bits(
     Some(n)
 }
 
-/// Reads a constrained whole number from 0 to `range`, the distance of the greatest from the least
-/// (X.691 11.5.6, 11.5.7).
+/// Reads a constrained whole number from 0 to `range`, the difference of the greatest and the least
+/// value (X.691 11.5.6, 11.5.7).
 #[inline(always)]
 pub fn next_constrained(
     octets: &[u8],

@@ -14,7 +14,8 @@ use crate::strings::next_octets;
 use asn1_schema::{Part, Span, is_real};
 use asn1_x691::FaultKind;
 
-/// Returns whether octets of a message, which may begin at any bit, are the contents of a REAL.
+/// Returns whether octets of a message are the contents of a REAL (X.690 8.5, 11.3). They may begin
+/// at any bit, and must be inside the message.
 pub fn is_real_at(message: &[u8], span: Span) -> bool
     requires size { 8 * length message.now < 2 ^ 64 }
     requires inside { span.at + span.count ≤ 8 * length message.now }
@@ -26,7 +27,7 @@ pub fn is_real_at(message: &[u8], span: Span) -> bool
     is_real(&octets)
 }
 
-/// Reads a REAL by its contents octets.
+/// Reads a REAL (X.691 15). The part has its contents octets.
 pub fn next_real(octets: &[u8], is_aligned: bool, node: usize, state: &mut State) -> Option<Part>
     requires size { 8 * length octets.now < 2 ^ 64 }
     requires within { IsWithin (bits octets.now) state.old }

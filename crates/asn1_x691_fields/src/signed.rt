@@ -28,7 +28,8 @@ fn below_minus_one(n: u128) -> i128
     -1 - n as i128
 }
 
-/// Returns the number that at most 16 octets are.
+/// Returns the number of a span of two's complement. It must have from 1 to 128 bits, and be inside
+/// the octets.
 pub fn signed_at(octets: &[u8], span: Span) -> i128
     requires size { 8 * length octets.now < 2 ^ 64 }
     requires some { 0 < span.count }
@@ -44,8 +45,8 @@ pub fn signed_at(octets: &[u8], span: Span) -> i128
     below_minus_one(half - 1 - (digits - half))
 }
 
-/// Returns whether octets, no more than they need, are a number between two bounds. More than 16
-/// octets are none.
+/// Returns whether octets of two's complement are a number between two bounds. The number must be
+/// in the minimal number of octets. One of more than 16 octets is not between them.
 pub fn is_between(octets: &[u8], span: Span, least: i128, range: u128) -> bool
     requires size { 8 * length octets.now < 2 ^ 64 }
     requires fits { (least +ℤ pos range) <ℤ pos (2 ^ 127) }
@@ -63,8 +64,8 @@ pub fn is_between(octets: &[u8], span: Span, least: i128, range: u128) -> bool
     least <= number && number <= above(least, range)
 }
 
-/// Returns whether octets, no more than they need, are a number below a bound. More than 16 octets
-/// are below it where their first bit is 1.
+/// Returns whether octets of two's complement are a number below a bound. The number must be in the
+/// minimal number of octets. One of more than 16 octets is below the bound if its first bit is 1.
 pub fn is_below(octets: &[u8], span: Span, bound: i128) -> bool
     requires size { 8 * length octets.now < 2 ^ 64 }
     requires some { 0 < span.count }

@@ -181,8 +181,8 @@ fn next_characters_of(
     next_characters(octets, alphabet, count, node, state)
 }
 
-/// Returns whether so many characters of `width` bits, of a size from `least` to `least + range`, begin
-/// where they are, and not at an octet in the ALIGNED variant (X.691 30.5.6, 30.5.7).
+/// Returns whether `count` characters of `width` bits, of a size from `least` to `least + range`, begin
+/// at the next bit in the ALIGNED variant, and not at the next octet (X.691 30.5.6, 30.5.7).
 #[inline(always)]
 pub fn is_inline_text(width: usize, least: usize, range: usize, count: usize) -> bool
     requires width { width ≤ 128 }

@@ -24,7 +24,7 @@ pub(crate) fn is_of_root(size: Length, count: usize) -> bool
     }
 }
 
-/// Reads a length below 16,384 that is not below the least (X.691 11.9.3.5).
+/// Reads a length below 16,384 that is at least the least (X.691 11.9.3.5).
 pub fn next_length_at_least(
     octets: &[u8],
     is_aligned: bool,
@@ -47,7 +47,7 @@ pub fn next_length_at_least(
     Some(count)
 }
 
-/// Reads a length below 16,384 that is none of the root (X.691 20.4).
+/// Reads a length below 16,384 that is not in the root (X.691 20.4).
 pub fn next_added_length(
     octets: &[u8],
     is_aligned: bool,

@@ -16,7 +16,7 @@ use crate::unbounded::next_semi_constrained;
 use asn1_schema::{Natural, Span};
 use asn1_x691::FaultKind;
 
-/// Reads a whole number from 0 on, where most are below 64 (X.691 11.6).
+/// Reads a normally small whole number from 0 on (X.691 11.6).
 pub fn next_small_number(
     octets: &[u8],
     is_aligned: bool,

@@ -54,7 +54,7 @@ fn fragment_of(times: usize, node: usize, state: &mut State) -> Option<usize>
     None
 }
 
-/// Reads the number of the units that follow.
+/// Reads the number of the units that follow (X.691 11.9.3.6 to 11.9.3.8).
 #[inline(always)]
 pub fn next_count(octets: &[u8], is_aligned: bool, node: usize, state: &mut State) -> Option<usize>
     requires size { 8 * length octets.now < 2 ^ 64 }
@@ -68,7 +68,7 @@ pub fn next_count(octets: &[u8], is_aligned: bool, node: usize, state: &mut Stat
     next_count_octets(octets, node, state)
 }
 
-/// Reads units of `unit` bits each after their number. `unit` is at most 64.
+/// Reads units of `unit` bits each after their number. `unit` must be at most 64.
 #[inline(always)]
 pub fn next_units(
     octets: &[u8],

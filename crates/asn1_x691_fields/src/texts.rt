@@ -17,9 +17,10 @@ use crate::sized_texts::{next_added_text, next_text_of};
 use crate::state::State;
 use asn1_schema::{Characters, Codes, Length, Part, Range, Rows};
 
-/// Reads a string of characters whose size constraint has an extension marker. Its alphabet is rows of a
-/// table of ranges. A size that is none of the root goes with the alphabet of the whole type (X.691 30.4,
-/// 30.5).
+/// Reads a string of characters whose size constraint has an extension marker (X.691 30.4, 30.5).
+///
+/// Its alphabet is rows of a table of ranges. A string of a size outside the root has the alphabet of the
+/// whole type.
 pub fn next_extensible_text(
     octets: &[u8],
     is_aligned: bool,
@@ -70,8 +71,8 @@ fn next_text_by_bit(
     next_text_of_root(octets, is_aligned, table, size, alphabet, node, state)
 }
 
-/// Reads characters of a number of the root, by their alphabet, which is rows of a table of ranges
-/// (X.691 30.5).
+/// Reads a string of characters of a size in the root, by its alphabet, which is rows of a table of
+/// ranges (X.691 30.5).
 #[inline(always)]
 pub fn next_text_of_root(
     octets: &[u8],

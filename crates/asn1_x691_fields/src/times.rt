@@ -35,8 +35,8 @@ pub fn visible(is_aligned: bool) -> Alphabet<'static>
     alphabet_of(&VISIBLE, is_aligned)
 }
 
-/// Returns whether characters of a message are a time of this kind. The code of each is its number,
-/// of `width` bits.
+/// Returns whether characters of a message are a time of a kind. The code of each is its number, in
+/// `width` bits, which must be at most 32.
 pub fn is_time_at(message: &[u8], at: usize, width: usize, count: usize, kind: TimeKind) -> bool
     requires size { 8 * length message.now < 2 ^ 64 }
     requires width { width ≤ 32 }
@@ -47,7 +47,7 @@ pub fn is_time_at(message: &[u8], at: usize, width: usize, count: usize, kind: T
     is_time(&characters, kind)
 }
 
-/// Reads a time of this kind.
+/// Reads a UTCTime or a GeneralizedTime (X.691 30).
 pub fn next_time(
     octets: &[u8],
     is_aligned: bool,

@@ -16,8 +16,8 @@ use crate::state::{State, fail};
 use asn1_schema::Span;
 use asn1_x691::FaultKind;
 
-/// Reads a whole number from 0 on, in the fewest octets after their number (X.691 11.7). Returns
-/// its octets.
+/// Reads a whole number from 0 on, in the minimal number of octets after their number (X.691 11.7).
+/// Returns its octets.
 pub fn next_semi_constrained(
     octets: &[u8],
     is_aligned: bool,
@@ -88,8 +88,8 @@ fn next_minimal_octets(octets: &[u8], count: usize, node: usize, state: &mut Sta
     })
 }
 
-/// Reads a whole number in the fewest octets of two's complement, after their number (X.691 11.8).
-/// Returns its octets.
+/// Reads a whole number in the minimal number of octets of two's complement, after their number
+/// (X.691 11.8). Returns its octets.
 pub fn next_unconstrained(
     octets: &[u8],
     is_aligned: bool,

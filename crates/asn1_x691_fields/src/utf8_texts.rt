@@ -19,7 +19,7 @@ use asn1_x691::FaultKind;
 /// How many octets are looked at together. A character has at most four.
 const WINDOW: usize = 64;
 
-/// Reads a UTF8String by its octets (X.691 30.6, X.690 8.23.10).
+/// Reads a UTF8String (X.691 30.6, X.690 8.23.10). The part has its octets.
 pub fn next_utf8_string(
     octets: &[u8],
     is_aligned: bool,
@@ -41,7 +41,8 @@ pub fn next_utf8_string(
     Some(Part::Octets(span))
 }
 
-/// Returns whether octets of a message, which may begin at any bit, are UTF-8.
+/// Returns whether octets of a message are UTF-8. They may begin at any bit, and must be inside the
+/// message.
 pub fn is_utf8(message: &[u8], span: Span) -> bool
     requires size { 8 * length message.now < 2 ^ 64 }
     requires inside { span.at + span.count ≤ 8 * length message.now }

@@ -9,8 +9,8 @@ ghost use Rattle.asn1_x691_writers.specs.Written.{IsIndex, IsGrown};
 
 use asn1_bits::{BitStr, Turns, overwrite_bitslice, overwrite_number, read_wide};
 
-/// Returns the index that is so many bits after another. From 2^64 - 8 on an index tells only its
-/// bit in an octet.
+/// Returns the index `more` bits after another. From 2^64 - 8 on an index has only its bit in an
+/// octet.
 #[inline(always)]
 pub fn after(at: usize, more: usize) -> usize
     ensures { (n : ℕ) → IsIndex at n → IsIndex result (n + more) }
@@ -35,8 +35,8 @@ fn store(octets: &mut [u8], first: usize, word: u64)
     }
 }
 
-/// Writes a number of `width` bits, at most 57, from bit `at` on, and returns the index after it.
-/// It clears the bits after it in eight octets.
+/// Writes a number of `width` bits, which must be at most 57, from bit `at` on. Returns the index
+/// after it. It clears the bits after it in eight octets.
 #[inline(always)]
 pub fn put_number(octets: &mut [u8], at: usize, value: u64, width: usize) -> usize
     requires size { 8 * length octets.old < 2 ^ 64 }
@@ -72,7 +72,8 @@ fn put_last(octets: &mut [u8], at: usize, value: u128, width: usize) -> usize
     at + width
 }
 
-/// Writes a number of `width` bits, at most 128, from bit `at` on, and returns the index after it.
+/// Writes a number of `width` bits, which must be at most 128, from bit `at` on. Returns the index
+/// after it.
 #[inline(always)]
 pub fn put_wide(octets: &mut [u8], at: usize, value: u128, width: usize) -> usize
     requires size { 8 * length octets.old < 2 ^ 64 }
@@ -86,7 +87,8 @@ pub fn put_wide(octets: &mut [u8], at: usize, value: u128, width: usize) -> usiz
     put_last(octets, at, value, width)
 }
 
-/// Writes `count` bits of a source from bit `at` on, and returns the index after them.
+/// Writes `count` bits of a source, from bit `from` on, to bit `at`. Returns the index after them.
+/// The bits must be inside the source.
 #[inline(always)]
 pub fn put_bits(octets: &mut [u8], at: usize, source: &[u8], from: usize, count: usize) -> usize
     requires size { 8 * length octets.old < 2 ^ 64 }

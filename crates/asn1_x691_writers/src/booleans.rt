@@ -25,7 +25,7 @@ pub fn put_bit(octets: &mut [u8], at: usize, is_one: bool) -> usize
     put_number(octets, at, 0, 1)
 }
 
-/// Writes a BOOLEAN.
+/// Writes a BOOLEAN (X.691 12).
 pub fn put_boolean(octets: &mut [u8], part: Part, node: usize, state: &mut Writer) -> bool
     requires size { 8 * length octets.old < 2 ^ 64 }
     ensures { (is_aligned : Bool) (ranges : List Range) (source : List ℕ) → IsPut is_aligned (leaf (anywhere (bit node)) Truth node) (piece_in ranges source part)

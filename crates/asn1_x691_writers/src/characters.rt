@@ -48,8 +48,7 @@ fn character_by(table: &[Range], codes: Codes, code: u128) -> u64
     }
 }
 
-/// Returns the first character of a part, or 2^32 where it is greater. No alphabet has such a
-/// character.
+/// Returns the first character of a part, or 2^32 if it is greater. No alphabet has that character.
 pub fn first_character(source: &[u8], table: &[Range], text: Characters) -> u64
     requires { 8 * length source.now < 2 ^ 64 }
     ensures { result ≡ min (character_of table.now text.codes (number (bits_at (bits source.now) text.at text.width))) (2 ^ 32) }
@@ -57,7 +56,7 @@ pub fn first_character(source: &[u8], table: &[Range], text: Characters) -> u64
     character_by(table, text.codes, number_in(source, text.at, text.width))
 }
 
-/// Returns the characters of a part after the first.
+/// Returns the characters of a part after the first. There must be a first one.
 pub fn other_characters(text: Characters) -> Characters
     requires { 0 < text.count }
     ensures count { result.count + 1 ≡ text.count }

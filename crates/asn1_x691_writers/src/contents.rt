@@ -15,7 +15,7 @@ use crate::unknown::put_octets;
 use asn1_schema::{MisfitKind, Part, Span};
 use asn1_x691_fields::{are_subidentifiers, is_real_at, is_utf8};
 
-/// What octets hold.
+/// What octets are.
 #[derive(Clone, Copy, Debug, PartialEq, Eq)]
 pub enum ContentsKind {
     /// The contents octets of an OBJECT IDENTIFIER (X.690 8.19).
@@ -28,8 +28,8 @@ pub enum ContentsKind {
     Real,
 }
 
-/// Writes octets of this kind after their number. The part must not be one in fragments: its octets
-/// are not written yet.
+/// Writes octets of a kind after their number (X.691 15, 24, 25, 30.6). The part must not be in
+/// fragments.
 pub fn put_contents(
     octets: &mut [u8],
     is_aligned: bool,
@@ -66,7 +66,7 @@ pub fn put_contents(
     }
 }
 
-/// Returns whether bits of a source are octets of this kind.
+/// Returns whether bits of a source, which must be inside it, are octets of a kind.
 pub fn is_valid(kind: ContentsKind, source: &[u8], span: Span) -> bool
     requires source { 8 * length source.now < 2 ^ 64 }
     requires inside { span.at + span.count ≤ 8 * length source.now }

@@ -32,9 +32,11 @@ fn put_over(octets: &mut [u8], at: usize, value: u128, width: usize)
     overwrite_number(octets, at, value, width, &mut Turns::new());
 }
 
-/// Writes the number of `count` octets, fewer than 16,384, in the minimal number of octets before
-/// them (X.691 11.9.3.6, 11.9.3.7). The octets were written after eight zeros, and the zeros at bit
-/// `at`, at most 7. Returns the index after the octets, which are moved where their number takes two
+/// Writes the number of `count` octets in the minimal number of octets before them (X.691 11.9.3.6,
+/// 11.9.3.7). Returns the index after the octets.
+///
+/// `count` must be less than 16,384. The octets must have been written after eight zeros, and the
+/// zeros at bit `at`, which must be at most 7. The octets are moved if their number takes two
 /// octets.
 pub fn put_length_before(octets: &mut [u8], at: usize, count: usize) -> usize
     requires size { 8 * length octets.old < 2 ^ 64 }

@@ -55,7 +55,7 @@ pub fn put_enumerated(
     }
 }
 
-/// Returns a number, or nothing where it is 2^128 or more.
+/// Returns a number. `None` if it is 2^128 or more.
 pub fn natural(source: &[u8], n: Natural) -> Option<u128>
     requires { 8 * length source.now < 2 ^ 64 }
     ensures { MatchOption result (2 ^ 128 ≤ natural_of (bits source.now) n) (λ m. m ≡ natural_of (bits source.now) n) }

@@ -20,9 +20,9 @@ use asn1_x691_fields::above;
 pub enum Held {
     /// A number from -2^127 to 2^127 - 1.
     Number(i128),
-    /// A greater number.
+    /// A number of 2^127 or more.
     FarAbove,
-    /// A number below.
+    /// A number less than -2^127.
     FarBelow,
     /// No number.
     Other,
@@ -47,7 +47,7 @@ pub fn integer_of(source: &[u8], part: Part) -> Held
     }
 }
 
-/// Returns the bit at an index.
+/// Returns the bit at an index, which must be inside the source.
 pub fn bit_at(source: &[u8], at: usize) -> bool
     requires { at + 1 ≤ 8 * length source.now }
     ensures { bits_at (bits source.now) at 1 ≡ result ∷ [] }
@@ -92,7 +92,8 @@ fn above_of(source: &[u8], least: i128, span: Span) -> Held
     Held::Number(above(least, n))
 }
 
-/// Returns a span of two's complement without the bits at its begin that repeat the sign.
+/// Returns a span of two's complement without the first bits that repeat the sign. The span must be
+/// inside the source.
 pub fn strip_signs(source: &[u8], span: Span) -> Span
     requires source { 8 * length source.now < 2 ^ 64 }
     requires inside { span.at + span.count ≤ 8 * length source.now }

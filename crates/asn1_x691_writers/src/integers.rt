@@ -29,7 +29,7 @@ fn distance_above(z: i128, least: i128) -> u128
     z.abs_diff(least)
 }
 
-/// Writes an INTEGER without a least value, in octets of two's complement (X.691 13.2.4).
+/// Writes an INTEGER without a lower bound, in octets of two's complement (X.691 13.2.4).
 pub fn put_integer(
     octets: &mut [u8],
     is_aligned: bool,
@@ -191,7 +191,7 @@ fn put_between_by_bit(
     true
 }
 
-/// Writes an INTEGER that has a least value alone, which may have an extension marker (X.691 13.1,
+/// Writes an INTEGER with a lower bound alone, which may have an extension marker (X.691 13.1,
 /// 13.2.3).
 pub fn put_integer_at_least(
     octets: &mut [u8],

@@ -173,7 +173,8 @@ pub fn size_of_fragments(source: &[u8], fragments: Fragments) -> u128
     size_of(source, &joined)
 }
 
-/// Writes the bits of a part in fragments, of which there are `count`. Returns the index after them.
+/// Writes the `count` bits of a part in fragments. Returns the index after them. `count` must be the
+/// number of all its bits.
 pub fn put_fragments(
     octets: &mut [u8],
     at: usize,

@@ -26,7 +26,8 @@ pub(crate) fn put_length_octets(octets: &mut [u8], at: usize, n: usize) -> usize
     put_number(octets, at, 32768 + n as u64, 16)
 }
 
-/// Writes a length below 16,384 (X.691 11.9.3.5 to 11.9.3.7). Returns the index after it.
+/// Writes a length, which must be below 16,384 (X.691 11.9.3.5 to 11.9.3.7). Returns the index
+/// after it.
 #[inline(always)]
 pub fn put_length(octets: &mut [u8], at: usize, is_aligned: bool, n: usize) -> usize
     requires size { 8 * length octets.old < 2 ^ 64 }
@@ -37,7 +38,7 @@ pub fn put_length(octets: &mut [u8], at: usize, is_aligned: bool, n: usize) -> u
     put_length_octets(octets, start, n)
 }
 
-/// Writes a length from 1 on, below 16,384, that is mostly small (X.691 11.9.3.4). Returns the
+/// Writes a normally small length, which must be from 1 to 16,383 (X.691 11.9.3.4). Returns the
 /// index after it.
 pub fn put_small_length(octets: &mut [u8], at: usize, is_aligned: bool, n: usize) -> usize
     requires size { 8 * length octets.old < 2 ^ 64 }

@@ -1,14 +1,16 @@
 //! Writes the fields of the packed encoding rules (X.691), and values of one part.
 //!
-//! A call writes to octets of its caller, and allocates nothing. Where they are too few, it counts
-//! on: it returns the index that it would have reached with enough of them.
+//! A call writes to the octets of its caller, and does not allocate. If they are too few, it returns
+//! the index that it would have reached with enough of them. The octets, and those of a source, must
+//! be fewer than 2^61.
 //!
-//! Functions of fields take a value that has an encoding, and return the index after it. Functions of
-//! types take a part and the octets in which it has its bits, and move the [`Writer`]; or they set
-//! why the part has no encoding, and change nothing else.
+//! Functions of fields take a value that must have an encoding, and return the index of the bit after
+//! it. Functions of types take a part and the octets in which it has its bits, and move the
+//! [`Writer`]. They return `false` if the part has no encoding; then they set the reason, and change
+//! nothing else.
 //!
-//! `specs/Written` says what octets hold and what a call wrote, and `specs/Put` what a call did with
-//! a part.
+//! `specs/Written` defines what octets hold and what a call wrote, and `specs/Put` what a call did
+//! with a part.
 #![tactic(auto)]
 
 mod bit_strings;

@@ -33,8 +33,8 @@ fn put_in_bits(octets: &mut [u8], at: usize, n: u128, width: usize) -> usize
     put_wide(octets, at, n, width)
 }
 
-/// Writes a constrained whole number from 0 to `range`, the distance of the greatest from the least
-/// (X.691 11.5.6, 11.5.7). Returns the index after it.
+/// Writes a constrained whole number, which must be from 0 to `range`, the difference of the
+/// greatest and the least value (X.691 11.5.6, 11.5.7). Returns the index after it.
 #[inline(always)]
 pub fn put_constrained(
     octets: &mut [u8],

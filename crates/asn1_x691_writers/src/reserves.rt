@@ -21,7 +21,7 @@ pub fn put_zeros(octets: &mut [u8], at: usize, count: usize) -> usize
     put_number(octets, next, 0, left)
 }
 
-/// Sets bit `at`, which was written before. It does nothing where the octets are too few for it.
+/// Sets bit `at`, which was written before. It does nothing if the octets are too few for it.
 pub fn set_bit(octets: &mut [u8], at: usize)
     requires { 8 * length octets.old < 2 ^ 64 }
     ensures { (was : List ℕ) (old new : ℕ) (xs ys : List Bool) (b : Bool) → ((n : ℕ) → IsIndex old n → IsIndex at (n + length xs))

@@ -13,7 +13,7 @@ use crate::numbers::put_constrained;
 use crate::strings::put_units;
 use asn1_schema::Length;
 
-/// Returns whether a size constraint permits so many, without its extension marker.
+/// Returns whether the root of a size constraint permits a size.
 pub fn is_of_root(size: Length, count: usize) -> bool
     ensures of_root { result ≡ true → IsOfRoot size count }
     ensures added { result ≡ false → IsAddedSize size count }
@@ -26,8 +26,8 @@ pub fn is_of_root(size: Length, count: usize) -> bool
     }
 }
 
-/// Writes a string of `count` units of `unit` bits of a source, of a size of the root. Returns the
-/// index after it.
+/// Writes a string of `count` units of `unit` bits of a source (X.691 16, 17). Returns the index
+/// after it. The units must be inside the source, and the size must be in the root.
 pub fn put_string_of(
     octets: &mut [u8],
     at: usize,
@@ -73,8 +73,8 @@ pub fn put_string_of(
     }
 }
 
-/// Writes a string of a size that is none of the root (X.691 16.6, 17.3). Returns the index after
-/// it.
+/// Writes a string of a size that is not in the root (X.691 16.6, 17.3). Returns the index after
+/// it. The units must be inside the source.
 pub fn put_added_string(
     octets: &mut [u8],
     at: usize,

@@ -6,7 +6,7 @@ ghost use Rattle.asn1_schema.specs.PiecesOfParts.{bits_of};
 
 use asn1_schema::Span;
 
-/// Returns the part of a span that is within the source. It has the same bits.
+/// Returns the part of a span that is inside the source. It has the same bits.
 pub fn clip(source: &[u8], span: Span) -> Span
     requires source { 8 * length source.now < 2 ^ 64 }
     ensures same { bits_of (bits source.now) result ≡ bits_of (bits source.now) span }

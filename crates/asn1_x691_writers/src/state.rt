@@ -14,9 +14,9 @@ pub enum Rejection {
     /// whose index is 2^128 or more; or an INTEGER outside -2^127 to 2^127 - 1, unless its type has
     /// no extension marker and the part is what a decoder of that type returns.
     Unsupported,
-    /// The part begins a value of more than 504 bits that must be compared, and for which the octets
-    /// are too few: one with a DEFAULT with its default value, an item of a SET OF with the item
-    /// before it. With more octets it is compared.
+    /// The part begins a value of more than 504 bits that must be compared, and the octets are too
+    /// few for it: a component with its default value, or an item of a SET OF with the item before
+    /// it.
     NoRoom,
 }
 
@@ -24,7 +24,7 @@ pub enum Rejection {
 /// stopped.
 #[derive(Clone, Copy, Debug)]
 pub struct Writer {
-    /// The index of the next bit, also where the octets are too few for it.
+    /// The index of the next bit, even if the octets are too few for it.
     pub at: usize,
     /// The index of the next part.
     pub next: usize,
@@ -34,7 +34,7 @@ pub struct Writer {
     pub reason: Rejection,
 }
 
-/// Rejects the next part. Returns false.
+/// Rejects the next part, which does not fit the type at a node. Returns `false`.
 #[inline(always)]
 pub fn reject(state: &mut Writer, node: usize, kind: MisfitKind) -> bool
     ensures result { result ≡ false }
@@ -48,7 +48,7 @@ pub fn reject(state: &mut Writer, node: usize, kind: MisfitKind) -> bool
     false
 }
 
-/// Leaves the next part, whose number is too large for this encoder. Returns false.
+/// Rejects the next part as unsupported: its number is too large for this encoder. Returns `false`.
 #[cold]
 pub fn leave(state: &mut Writer, node: usize) -> bool
     ensures result { result ≡ false }

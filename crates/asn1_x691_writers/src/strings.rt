@@ -12,8 +12,8 @@ use crate::bits::{put_bits, put_number};
 use crate::heads::put_start;
 use crate::lengths::put_length_octets;
 
-/// Writes `count` units of `unit` bits of a source, from bit `from` on, after their number. Returns
-/// the index after them.
+/// Writes `count` units of `unit` bits of a source, from bit `from` on, after their number
+/// (X.691 11.9.3.5 to 11.9.3.8). Returns the index after them. The units must be inside the source.
 #[inline(always)]
 pub fn put_units(
     octets: &mut [u8],

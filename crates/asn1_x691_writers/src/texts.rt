@@ -22,9 +22,10 @@ use crate::state::{Writer, reject};
 use asn1_schema::{Characters, Length, MisfitKind, Part, Range, Rows};
 use asn1_x691_fields::{alphabet_of_few, ranges_in};
 
-/// Writes a string of characters by its size constraint and its alphabet, which are rows of a table
-/// of ranges. A size that is none of the root goes with the alphabet of the whole type (X.691 30.4,
-/// 30.5).
+/// Writes a string of characters by its size constraint and its alphabet (X.691 30.4, 30.5).
+///
+/// The alphabets are rows of a table of ranges. A string of a size outside the root has the
+/// alphabet of the whole type.
 #[inline(always)]
 pub fn put_text(
     octets: &mut [u8],

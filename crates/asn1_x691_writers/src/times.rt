@@ -17,7 +17,7 @@ use crate::state::{Writer, reject};
 use asn1_schema::{Characters, Length, MisfitKind, Part, Range, TimeKind, is_time};
 use asn1_x691_fields::visible;
 
-/// Returns whether the characters of a part are a time of this kind.
+/// Returns whether the characters of a part are a time of a kind.
 pub fn is_time_in(source: &[u8], table: &[Range], text: Characters, kind: TimeKind) -> bool
     requires { 8 * length source.now < 2 ^ 64 }
     ensures { Decides result (IsTime kind (characters_of table.now (bits source.now) text)) }
@@ -26,7 +26,7 @@ pub fn is_time_in(source: &[u8], table: &[Range], text: Characters, kind: TimeKi
     is_time(&characters, kind)
 }
 
-/// Writes a time of this kind.
+/// Writes a UTCTime or a GeneralizedTime (X.691 30).
 pub fn put_time(
     octets: &mut [u8],
     is_aligned: bool,

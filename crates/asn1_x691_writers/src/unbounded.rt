@@ -28,8 +28,10 @@ pub fn put_semi_constrained(octets: &mut [u8], at: usize, is_aligned: bool, n: u
     put_minimal(octets, start, n, count)
 }
 
-/// Writes a whole number from 0 on, whose digits are those of a span that begins with a 1, in the
-/// minimal number of octets after their number (X.691 11.7). Returns the index after it.
+/// Writes a whole number from 0 on with the digits of a span, in the minimal number of octets after
+/// their number (X.691 11.7). Returns the index after it.
+///
+/// The span must be inside the source, begin with a 1, and have at most 131,064 bits.
 pub fn put_semi_constrained_span(
     octets: &mut [u8],
     at: usize,
@@ -66,7 +68,7 @@ fn put_minimal_span(octets: &mut [u8], at: usize, source: &[u8], span: Span, cou
     put_bits(octets, zeros, source, span.at, span.count)
 }
 
-/// Writes a whole number from 0 on that is mostly small (X.691 11.6). Returns the index after it.
+/// Writes a normally small whole number from 0 on (X.691 11.6). Returns the index after it.
 pub fn put_small_number(octets: &mut [u8], at: usize, is_aligned: bool, n: u128) -> usize
     requires size { 8 * length octets.old < 2 ^ 64 }
     ensures { (node : ℕ) → IsWritten is_aligned (small_number is_aligned node) n octets.old at octets.new result }
@@ -140,9 +142,11 @@ pub fn put_unconstrained(octets: &mut [u8], at: usize, is_aligned: bool, z: i128
     put_signed(octets, start, z, count)
 }
 
-/// Writes a whole number, whose octets of two's complement are those of a span that begins with two
-/// different bits, in the minimal number of octets after their number (X.691 11.8). Returns the
-/// index after it.
+/// Writes a whole number with the two's complement of a span, in the minimal number of octets after
+/// their number (X.691 11.8). Returns the index after it.
+///
+/// The span must be inside the source, begin with two different bits, and have at most 131,064
+/// bits.
 pub fn put_unconstrained_span(
     octets: &mut [u8],
     at: usize,

@@ -16,8 +16,8 @@ use crate::state::{Writer, reject};
 use crate::strings::put_units;
 use asn1_schema::{MisfitKind, Part};
 
-/// Writes `count` octets of a source, from bit `from` on, after their number. Returns the index
-/// after them.
+/// Writes `count` octets of a source, from bit `from` on, after their number (X.691 17.8). Returns
+/// the index after them. The octets must be inside the source.
 pub fn put_octets(
     octets: &mut [u8],
     at: usize,
@@ -35,7 +35,7 @@ pub fn put_octets(
     put_units(octets, at, is_aligned, 8, source, from, count)
 }
 
-/// Writes the octets of a value that the schema does not know.
+/// Writes the octets of a value that the schema does not know (X.691 19.9, 23.8).
 pub fn put_unknown(
     octets: &mut [u8],
     is_aligned: bool,

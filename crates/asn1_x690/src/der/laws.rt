@@ -9,8 +9,8 @@ ghost use Rattle.asn1_schema.specs.TypeEncodings.{EncodesUniquely, NamesEachMisf
 ghost use Rattle.asn1_x690.specs.Der.{Context, encoding_at};
 ghost use Rattle.asn1_x690.specs.Example.{example_nodes, example_context, example_parts, example_bits};
 
-/// States what holds of the element that encodes a value of each type of each schema, for values
-/// that are nested less deep than the depth; it does nothing. The tables need no check.
+/// States what holds of the elements that encode values of each type of each schema, for values
+/// that are nested less deep than the depth. It does nothing. The tables need no check.
 pub fn laws_of_types()
     // Bits begin with an encoding of one value at most, which ends at one place.
     ensures decodes_one { (nodes : List node.Node) (context : Context) (depth place : ℕ)
