@@ -2,14 +2,17 @@
 
 import os
 import re
+import textwrap
 
 from . import repository
 
 # The crate that has the tests.
 CRATE = "asn1_examples"
+# The columns of a line as `rt fmt` lays it out.
+WIDTH = 100
 ITEM = re.compile(r"^ *(?:pub )?(?:const |final )?(fn|struct|enum|trait) (\w+)", re.M)
 USE = re.compile(r"use ([\w:]+)::(?:\{([\w, ]+)\}|(\w+));")
-OWNER = re.compile(r"^(?:impl(?:<.*?>)? (?:[\w:<>', ]+ for )?|pub trait )(\w+)", re.M)
+OWNER = re.compile(r"^(?:impl(?:<.*?>)? (?:.* for )?|pub trait )(\w+)", re.M)
 
 
 def snake(name):
@@ -56,9 +59,13 @@ def of_crate(crate):
     return [it for file in files for it in read(repository.text_of(file), crate.name)]
 
 
-def group(names):
-    """Names after the path of a `use`."""
-    return names[0] if len(names) == 1 else "{" + ", ".join(names) + "}"
+def use(path, names):
+    """A `use` of names, as `rt fmt` lays it out."""
+    line = f"use {path}::{{{', '.join(names)}}};" if len(names) > 1 else f"use {path}::{names[0]};"
+    if len(line) <= WIDTH:
+        return f"{line}\n"
+    rows = textwrap.wrap(", ".join(names) + ",", WIDTH, initial_indent="    ", subsequent_indent="    ")
+    return f"use {path}::{{\n" + "\n".join(rows) + "\n};\n"
 
 
 def module(name, examples):
@@ -66,7 +73,7 @@ def module(name, examples):
     named = {"std::test": {"Fail"}}
     for path, several, one in (it for example in examples for it in example.uses):
         named.setdefault(path, set()).update(re.findall(r"\w+", several or one))
-    uses = "".join(f"use {path}::{group(sorted(names))};\n" for path, names in sorted(named.items()))
+    uses = "".join(use(path, sorted(names)) for path, names in sorted(named.items()))
     return f"//! The examples of `{name}`.\n\n{uses}\n" + "\n".join(it.test() for it in examples)
 
 

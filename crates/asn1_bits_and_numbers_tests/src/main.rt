@@ -4,7 +4,7 @@
 //! A row's call is named by a type and a function of `asn1_bits`, `asn1_number`, `asn1_integer` or
 //! `asn1_oid`, as `BitStr::len A55A:4:8 = 8` and `u8::checked_add 255 1 = none`, or by a function
 //! of `asn1_bits` alone. `IntegerType::` is that trait at `Integer`. What a call requires is tested
-//! before it: a row that does not meet it is refused.
+//! before it: a row that does not meet it is rejected.
 #![tactic(auto)]
 
 mod bits;

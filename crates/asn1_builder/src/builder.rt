@@ -22,6 +22,27 @@ pub struct Built {
 ///
 /// A call that returns an error changes nothing. The builder does not check the constraints of the
 /// type; an encoder does.
+///
+/// # Examples
+///
+/// ```
+/// use asn1_builder::Builder;
+/// use asn1_resolve::Schema;
+/// use asn1_schema::Part;
+///
+/// let text = "M DEFINITIONS ::= BEGIN Both ::= SEQUENCE { a BOOLEAN, b BOOLEAN } END";
+/// let schema = Schema::parse(rt.alloc(), text)?;
+/// let node = schema.node_named("Both").unwrap_or(0);
+/// let mut builder = Builder::new(rt.alloc(), schema.tables(), schema.names(), node);
+/// builder.begin()?;
+/// builder.component("a")?;
+/// builder.boolean(true)?;
+/// builder.component("b")?;
+/// builder.boolean(false)?;
+/// builder.end()?;
+/// let built = builder.finish()?;
+/// assert!(rt; built.parts.get(1) == Some(&Part::Truth(true)));
+/// ```
 #[derive(Drop)]
 pub struct Builder<'s> {
     pub(crate) alloc: Global,

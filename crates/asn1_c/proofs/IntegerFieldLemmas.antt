@@ -267,7 +267,7 @@ sixteen_at_most n o s fits = elim (cases_lt 16 (length o)) [
   | inr le ↦ le
 ]
 
--- a word in two's complement, passed on as a number
+-- a word in two's complement, given as a number
 pub word_back : (word : ℕ) (v : ℤ) → word < 2 ^ 128 → v ≡ to_z w128 word → to_z w128 (of_z w128 v) ≡ to_z w128 word
 word_back word v lt e = ap (λ (z : ℤ). to_z w128 (of_z w128 z)) e ∙ ap (to_z w128) (of_z-to_z w128 word lt)
 

@@ -69,7 +69,7 @@ fn alphabet_for<'s>(
     }
 }
 
-/// Fills the alphabet of a string. The set is the permitted one where `permitted` says so, and else
+/// Fills the alphabet of a string. The set is the permitted one where `permitted` says so, otherwise it is
 /// not looked at. The alphabet refers to the set, and copies none of it.
 #[unsafe(no_mangle)]
 pub extern "C" fn asn1v_alphabet_new<'s>(

@@ -58,7 +58,7 @@ pub struct Refusal {
 }
 
 impl Refusal {
-    /// A refusal with a number.
+    /// An error with a number.
     pub(crate) fn with(code: u32, field: usize, number: u128) -> Refusal
         ensures code { result.code ≡ code }
         ensures field { result.field ≡ field }

@@ -92,6 +92,19 @@ impl DefaultEncodings {
     ///
     /// Returns [`DefaultError::Unsupported`] for the first default value that has no encoding, or
     /// [`DefaultError::Memory`] if out of memory.
+    ///
+    /// # Examples
+    ///
+    /// ```
+    /// use asn1_defaults::{DefaultEncodings, Rules};
+    /// use asn1_resolve::Schema;
+    ///
+    /// let text = "M DEFINITIONS ::= BEGIN S ::= SEQUENCE { a BOOLEAN DEFAULT TRUE } END";
+    /// let schema = Schema::parse(rt.alloc(), text)?;
+    /// let node = schema.node_named("S").unwrap_or(0);
+    /// let encodings = DefaultEncodings::new(rt.alloc(), &schema, node, Rules::Der)?;
+    /// assert!(rt; encodings.defaults().octets == [1, 1, 0xFF].as_slice());
+    /// ```
     pub fn new(
         alloc: Global,
         schema: &Schema,

@@ -3,7 +3,7 @@
 #![tactic(auto)]
 
 #[cfg(test)]
-mod refusals;
+mod failures;
 mod run;
 #[cfg(test)]
 mod tests;

@@ -78,6 +78,23 @@ impl<'s, T: Drop> From<AllocFailed<T>> for JsonError<'s> {
 /// Returns the first item that does not fit the type. Otherwise, it returns [`JsonProblem::Expected`] at
 /// the first item that is the contents of an open type and no hexadecimal digits. The problem is
 /// [`JsonProblem::Memory`] if out of memory.
+///
+/// # Examples
+///
+/// ```
+/// use asn1_json::{Tree, parse_value};
+/// use asn1_resolve::Schema;
+/// use asn1_schema::Part;
+/// use json::Scratch;
+///
+/// let text = "M DEFINITIONS ::= BEGIN Flags ::= SEQUENCE OF BOOLEAN END";
+/// let schema = Schema::parse(rt.alloc(), text)?;
+/// let mut scratch = Scratch::new(rt.alloc());
+/// let tree = Tree::parse(rt.alloc(), "[true, false]", &mut scratch)?;
+/// let node = schema.node_named("Flags").unwrap_or(0);
+/// let draft = parse_value(rt.alloc(), &schema, &tree, 10, node)?;
+/// assert!(rt; draft.parts().get(1) == Some(&Part::Truth(true)));
+/// ```
 pub fn parse_value<'s>(
     alloc: Global,
     schema: &'s Schema,

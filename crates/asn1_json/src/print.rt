@@ -42,6 +42,21 @@ impl From<AllocError> for PrintError {
 /// `depth` levels or deeper, [`PrintError::NoValue`] if the parts are no value of the type,
 /// [`PrintError::Unsupported`] if a value has no form in JSON, or [`PrintError::Memory`] if out of
 /// memory. Parts from a decoder are always a value.
+///
+/// # Examples
+///
+/// ```
+/// use asn1_json::print_value;
+/// use asn1_resolve::Schema;
+/// use asn1_schema::Part;
+///
+/// let text = "M DEFINITIONS ::= BEGIN Flags ::= SEQUENCE OF BOOLEAN END";
+/// let schema = Schema::parse(rt.alloc(), text)?;
+/// let parts = [Part::Count(1), Part::Truth(true)];
+/// let node = schema.node_named("Flags").unwrap_or(0);
+/// let json = print_value(rt.alloc(), &schema, &[], &parts, 10, node)?;
+/// assert!(rt; json.as_slice() == b"[\n  true\n]".as_slice());
+/// ```
 pub fn print_value(
     alloc: Global,
     schema: &Schema,

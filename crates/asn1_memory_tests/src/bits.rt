@@ -2,7 +2,7 @@
 
 ghost use Rattle.std.specs.Prelude.{◌≡◌, length, IfOk};
 
-use crate::refusal::{met_before, settle};
+use crate::failure::{met_before, settle};
 use asn1_values::{
     BitBuffer, BitReader, BitStr, BitString, Octets, extend_bitstring, extend_vec_from_bitslice,
     to_bitstring,
@@ -41,7 +41,7 @@ pub fn is_three_ones(buffer: &BitBuffer) -> bool {
     holds(buffer, 3, &[0xE0])
 }
 
-/// The three bits 111, and the 64 octets 5A behind them.
+/// The three bits 111, and the 64 octets 5A after them.
 const FOLLOWED_BY_OCTETS: [u8; 65] = [
     0xEB, 0x4B, 0x4B, 0x4B, 0x4B, 0x4B, 0x4B, 0x4B, 0x4B, 0x4B, 0x4B, 0x4B, 0x4B, 0x4B, 0x4B, 0x4B,
     0x4B, 0x4B, 0x4B, 0x4B, 0x4B, 0x4B, 0x4B, 0x4B, 0x4B, 0x4B, 0x4B, 0x4B, 0x4B, 0x4B, 0x4B, 0x4B,
@@ -50,14 +50,14 @@ const FOLLOWED_BY_OCTETS: [u8; 65] = [
     0x40,
 ];
 
-/// The bits 11101011, and 507 zeros behind them.
+/// The bits 11101011, and 507 zeros after them.
 const FOLLOWED_BY_ZEROS: [u8; 65] = [
     0xEB, 0, 0, 0, 0, 0, 0, 0, 0, 0, 0, 0, 0, 0, 0, 0, 0, 0, 0, 0, 0, 0, 0, 0, 0, 0, 0, 0, 0, 0, 0,
     0, 0, 0, 0, 0, 0, 0, 0, 0, 0, 0, 0, 0, 0, 0, 0, 0, 0, 0, 0, 0, 0, 0, 0, 0, 0, 0, 0, 0, 0, 0, 0,
     0, 0,
 ];
 
-/// Whether the buffer holds 111, and behind it, where the call is done, the 64 octets 5A.
+/// Whether the buffer holds 111, and after it, where the call is done, the 64 octets 5A.
 fn is_extended(buffer: &BitBuffer, is_done: bool) -> bool {
     if is_done {
         holds(buffer, 515, &FOLLOWED_BY_OCTETS)
@@ -295,7 +295,7 @@ fn bit_reader_octets_on_boundaries(rt: HostRuntime) -> Result<(), Fail> {
     Ok(())
 }
 
-/// The octets 11 and 22, and behind them the 64 octets from bit 4 on, without the last four bits.
+/// The octets 11 and 22, and after them the 64 octets from bit 4 on, without the last four bits.
 const EXTENDED: [u8; 65] = [
     0x11, 0x22, 0xA5, 0xA5, 0xA5, 0xA5, 0xA5, 0xA5, 0xA5, 0xA5, 0xA5, 0xA5, 0xA5, 0xA5, 0xA5, 0xA5,
     0xA5, 0xA5, 0xA5, 0xA5, 0xA5, 0xA5, 0xA5, 0xA5, 0xA5, 0xA5, 0xA5, 0xA5, 0xA5, 0xA5, 0xA5, 0xA5,

@@ -1,7 +1,7 @@
 //! Fields of all kinds.
 
 use crate::bits::{is_three_ones, three_ones};
-use crate::refusal::{met, met_before, settle};
+use crate::failure::{met, met_before, settle};
 use asn1_values::{
     BitBuffer, BitReader, BitStr, CharacterAlphabet, Field, Ia5String, Integer, ObjectIdentifier,
     Octets, ReadError, Shape, Turns, WriteError, read_fields, write_fields, write_fields_counted,
@@ -10,12 +10,12 @@ use std::alloc::Global;
 use std::borrow::CowSlice;
 use std::test::Fail;
 
-/// Forty octets, and so many zero octets that any buffer has to grow for them.
+/// Forty octets, and so many zero octets that any buffer must grow for them.
 const OCTETS: [u8; 40] = [0xA5; 40];
 
 const ZEROS: [u8; 4096] = [0; 4096];
 
-/// The integer 128, the same behind the number of its octets, and the contents of the arcs below.
+/// The integer 128, the same after the number of its octets, and the contents of the arcs below.
 const MIDDLE: [u8; 14] = [
     0x00, 0x80, 0x02, 0x00, 0x80, 0x60, 0x86, 0x48, 0x01, 0x65, 0x03, 0x04, 0x02, 0x03,
 ];
@@ -81,7 +81,7 @@ fn read<'a, 's>(
     read_fields(alloc, reader, shapes)
 }
 
-/// A call wrote the message behind 111, or met want of memory and left 111; another answer fails
+/// A call wrote the message after 111, or was out of memory and left 111; another result fails
 /// the test.
 fn answers(
     rt: &HostRuntime,
@@ -145,8 +145,8 @@ fn a_wrong_field_keeps_its_name_in_writing(rt: HostRuntime) -> Result<(), Fail> 
     Ok(())
 }
 
-/// Six bits, octets off the boundary, and an integer past `i128`, behind 111; None where memory was
-/// refused.
+/// Six bits, octets off the boundary, and an integer past `i128`, after 111; `None` if out
+/// of memory.
 fn bits_to_read(alloc: Global) -> Option<BitBuffer> {
     let power = Integer::from_signed_octets(alloc, &POWER).ok()?;
     let fields = [
@@ -182,8 +182,8 @@ fn are_those(fields: &[Field<'_, '_>]) -> bool {
         && matches!(oid, Field::Oid(oid) if oid.eq_arcs(&[2, 16, 840, 1, 101, 3, 4, 2, 3]))
 }
 
-/// Whether the fields behind 111 are read, and whether all is then right: they are those, and no bit
-/// is left; or there is want of memory, and all bits are left.
+/// Whether the fields after 111 are read, and whether all is then right: they are those, and no bit
+/// is left; or it is out of memory, and all bits are left.
 fn outcome_of(alloc: Global, view: BitStr<'_>) -> (bool, bool) {
     let shapes = [
         Shape::Number { width: 6 },

@@ -1,6 +1,6 @@
 //! Object identifiers.
 
-use crate::refusal::{met_before, settle};
+use crate::failure::{met_before, settle};
 use asn1_values::{ContentsError, DottedTextError, ObjectIdentifier, Oid, check_contents};
 use std::alloc::AllocError;
 use std::borrow::CowSlice;
@@ -12,7 +12,7 @@ const ARCS: [u32; 9] = [2, 16, 840, 1, 101, 3, 4, 2, 3];
 /// Its contents.
 const CONTENTS: [u8; 9] = [0x60, 0x86, 0x48, 0x01, 0x65, 0x03, 0x04, 0x02, 0x03];
 
-/// The same behind a tag and a length.
+/// The same after a tag and a length.
 const ELEMENT: [u8; 11] = [
     0x06, 0x09, 0x60, 0x86, 0x48, 0x01, 0x65, 0x03, 0x04, 0x02, 0x03,
 ];

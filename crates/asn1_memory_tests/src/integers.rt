@@ -1,10 +1,10 @@
 //! Whole numbers.
 
-use crate::refusal::{met, met_before, settle};
+use crate::failure::{met, met_before, settle};
 use asn1_values::{ConstrainedInteger, Integer, IntegerError, IntegerType};
 use std::test::Fail;
 
-/// The shortest octets of 2 to the power of 199: 24 zero octets behind 80, and a zero octet for the
+/// The shortest octets of 2 to the power of 199: 24 zero octets after 80, and a zero octet for the
 /// sign.
 const POWER: [u8; 26] = [
     0x00, 0x80, 0, 0, 0, 0, 0, 0, 0, 0, 0, 0, 0, 0, 0, 0, 0, 0, 0, 0, 0, 0, 0, 0, 0, 0,
@@ -26,7 +26,7 @@ fn is_largest(number: &Integer) -> bool {
     number.signed_octets().as_ref() == LARGEST.as_slice()
 }
 
-/// A call answered with 2 to the power of 199, or with want of memory; another answer fails the
+/// A call returned 2 to the power of 199, or was out of memory; another result fails the
 /// test.
 fn gives_power(
     rt: &HostRuntime,

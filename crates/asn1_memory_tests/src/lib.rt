@@ -1,13 +1,15 @@
-//! Tests in which the requests for memory of each call that grows are refused, one after another.
+//! Tests in which each allocation of each call that grows fails, one after another.
 //!
-//! Each test makes its arguments, calls once, and looks at the answer: where no request was refused
-//! it is the right one, and where one was it is want of memory under its own name, with everything
-//! as before. A test that meets a refusal says so in a line; `scripts/refuse-each-allocation`
-//! refuses its first request, then its second, and so on until it makes no more.
+//! Each test makes its arguments, calls once, and looks at the result: the right one if no
+//! allocation failed, otherwise the error for out of memory, with everything unchanged. A test that
+//! meets a failed allocation prints a line. `scripts/fail-each-allocation` makes the first
+//! allocation fail, then the second, and so on until there are no more.
 #![tactic(auto)]
 
 #[cfg(test)]
 mod bits;
+#[cfg(test)]
+mod failure;
 #[cfg(test)]
 mod fields;
 #[cfg(test)]
@@ -16,8 +18,6 @@ mod identifiers;
 mod integers;
 #[cfg(test)]
 mod octet_strings;
-#[cfg(test)]
-mod refusal;
 #[cfg(test)]
 mod reserved;
 #[cfg(test)]

@@ -1,6 +1,6 @@
 //! Octet strings.
 
-use crate::refusal::{met_before, settle};
+use crate::failure::{met_before, settle};
 use asn1_values::{FixedOctetString, OctetString};
 use bytes::Bytes;
 use std::alloc::Global;

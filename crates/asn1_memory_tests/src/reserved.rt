@@ -1,6 +1,6 @@
-//! Room that was reserved: what is then appended asks for no memory.
+//! Room that was reserved: what is then appended allocates nothing.
 
-use crate::refusal::met_before;
+use crate::failure::met_before;
 use asn1_values::BitBuffer;
 use std::test::Fail;
 

@@ -1,6 +1,6 @@
 //! Octet streams.
 
-use crate::refusal::settle;
+use crate::failure::settle;
 use octet_streams::{StreamError, read_to_end};
 use std::test::Fail;
 

@@ -1,6 +1,6 @@
 //! The eight restricted strings.
 
-use crate::refusal::{met, met_before, settle};
+use crate::failure::{met, met_before, settle};
 use asn1_values::{
     BitStr, BmpString, GeneralString, GraphicString, Ia5String, NumericString, OctetString,
     PermittedAlphabetError, PrintableString, StaticPermittedAlphabet, TeletexString, VisibleString,
@@ -21,7 +21,7 @@ fn has<S: StaticPermittedAlphabet>(string: &S, count: usize, character: u32) -> 
     string.len() == count && string.chars().all(|c| c == character)
 }
 
-/// A call answered with so many times one character, or with want of memory; another answer fails
+/// A call returned so many times one character, or was out of memory; another result fails
 /// the test.
 fn gives<S: StaticPermittedAlphabet>(
     rt: &HostRuntime,
@@ -53,7 +53,7 @@ fn from_str<S: StaticPermittedAlphabet>(
     S::try_from_str(alloc, text)
 }
 
-/// A string of forty-eight twos; None where memory was refused.
+/// A string of forty-eight twos; `None` if out of memory.
 fn twos<S: StaticPermittedAlphabet>(alloc: Global) -> Option<S> {
     from_slice(alloc, &TWOS).ok()
 }

@@ -25,7 +25,7 @@ pub(crate) fn sixteen_keys(a: &[u8], b: &[u8]) -> (u64, u64)
     (word_of_eight(a_last), word_of_eight(b_last))
 }
 
-/// Two words in the order of the numbers that eight or more shortest octets each spell. Mostly the
+/// Two words in the order of the numbers that eight or more shortest octets each encode. Mostly the
 /// first eight, which hold the sign, tell two numbers of one length apart.
 pub(crate) fn octets_keys(a: &[u8], b: &[u8]) -> (u64, u64)
     requires a_shortest { IsShortest (signed a.now) a.now }

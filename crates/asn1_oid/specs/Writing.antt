@@ -14,7 +14,7 @@ pub record HasDigits (n k : ℕ) : Type 0 where
   pub enough : n < 128 ^ k
   pub fewest : 1 < k → 128 ^ (k - 1) ≤ n
 
--- how many digits n has to base 128, if it is at most `most`
+-- how many digits to base 128 n has, if it is at most `most`
 abbrev pub digits_within : ℕ → ℕ → ℕ
 digits_within zero n = 1
 digits_within (suc most) n = if nat_lt n 128 then 1 else suc (digits_within most (n / 128))

@@ -92,6 +92,17 @@ impl Schema {
     ///
     /// Returns [`SchemaError::Notation`] with the first problem of the text that is found, or
     /// [`SchemaError::Memory`] if out of memory. A problem of the syntax is found before any other.
+    ///
+    /// # Examples
+    ///
+    /// ```
+    /// use asn1_resolve::Schema;
+    ///
+    /// let text = "M DEFINITIONS AUTOMATIC TAGS ::= BEGIN Age ::= INTEGER (0..150) END";
+    /// let schema = Schema::parse(rt.alloc(), text)?;
+    /// assert!(rt; schema.node_named("Age").is_some());
+    /// assert!(rt; schema.node_named("Name").is_none());
+    /// ```
     pub fn parse(alloc: Global, text: &str) -> Result<Schema, SchemaError> {
         let whole = with_associated_types(alloc, text)?;
         if text.len() < whole.len() {

@@ -73,6 +73,30 @@ impl<'v> Value<'v> {
     /// component with this name, or if the component is absent, as it is with its default value.
     ///
     /// It reads the parts of the components before it.
+    ///
+    /// # Examples
+    ///
+    /// ```
+    /// use asn1_resolve::Schema;
+    /// use asn1_schema::Part;
+    /// use asn1_schema_values::{Message, Value};
+    ///
+    /// let text = "M DEFINITIONS ::= BEGIN Both ::= SEQUENCE { a BOOLEAN, b BOOLEAN } END";
+    /// let schema = Schema::parse(rt.alloc(), text)?;
+    /// let both = Part::Sequence {
+    ///     count: 2,
+    ///     is_extended: false,
+    /// };
+    /// let message = Message {
+    ///     tables: schema.tables(),
+    ///     names: schema.names(),
+    ///     octets: &[],
+    ///     parts: &[both, Part::Truth(false), Part::Truth(true)],
+    /// };
+    /// let value = Value::whole(&message, schema.node_named("Both").unwrap_or(0));
+    /// assert!(rt; value.get("b").and_then(|it| it.as_bool()) == Some(true));
+    /// assert!(rt; value.get("c").is_none());
+    /// ```
     pub fn get(&self, name: &str) -> Option<Value<'v>>
         ensures { MatchOption result ((c : Value) → IsComponent self.now name.now c → ⊥)
             (λ c. IsComponent self.now name.now c) }

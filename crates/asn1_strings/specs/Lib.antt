@@ -1,4 +1,4 @@
--- The words of the contracts, those that are passed on first.
+-- The words of the contracts, those that are re-exported first.
 pub use Rattle.asn1_characters.specs.Widths
 pub use Rattle.asn1_characters.specs.Sets
 pub use Rattle.asn1_characters.specs.Texts

@@ -5,7 +5,7 @@ use crate::words::{RowError, show_value};
 use std::alloc::Global;
 
 /// The answer of a call, or, where one of its words is a range, its answers for each number there,
-/// one behind another: of `half 6..9` those of `half 6`, `half 7` and `half 8`.
+/// one after another: of `half 6..9` those of `half 6`, `half 7` and `half 8`.
 pub fn answer_each<A: Answers>(
     alloc: Global,
     answers: &A,
@@ -26,7 +26,7 @@ pub fn answer_each<A: Answers>(
     Ok(text)
 }
 
-/// The place of the first word that is a range, with the range's first number and the one behind its
+/// The place of the first word that is a range, with the range's first number and the one after its
 /// last.
 fn range_in(words: &[&str]) -> Option<(usize, usize, usize)> {
     for (place, word) in words.iter().enumerate() {
@@ -40,7 +40,7 @@ fn range_in(words: &[&str]) -> Option<(usize, usize, usize)> {
     None
 }
 
-/// The answer of a call with a number in the place of one of its words.
+/// The answer of a call with a number for one of its words.
 fn answer_at<A: Answers>(
     alloc: Global,
     answers: &A,

@@ -9,7 +9,7 @@ use thiserror::Error;
 /// Why rows come to no answer.
 #[derive(Debug, Drop, Error)]
 pub enum RowError {
-    /// A row cannot be read: what is wrong with which word.
+    /// A row cannot be read: the fault of which word.
     #[error("{0}")]
     Word(String),
     /// The input cannot be read, or the output not written.
@@ -20,7 +20,7 @@ pub enum RowError {
     Memory(#[from(alloc)] AllocError),
 }
 
-/// The refusal of a word: `wrong(alloc, "12x", "number")` says that `12x` is no number.
+/// The error of a word: `wrong(alloc, "12x", "number")` says that `12x` is no number.
 pub fn wrong(alloc: Global, word: &str, kind: &str) -> RowError {
     match format!(in alloc; "{word} is no {kind}") {
         Ok(text) => RowError::Word(text),
@@ -51,7 +51,7 @@ fn repeat(alloc: Global, text: &mut String, piece: &str, count: &str) -> Result<
     Ok(())
 }
 
-/// The value that a word spells, of a type that is read from text.
+/// The value that a word encodes, of a type that is read from text.
 pub fn parse_word<T: FromStr>(alloc: Global, word: &str) -> Result<T, RowError>
 where
     T::Err: Drop,
@@ -62,7 +62,7 @@ where
     }
 }
 
-/// The number that a word spells in decimal, `MIN` or `MAX` for the bounds of `i128`.
+/// The number that a word encodes in decimal, `MIN` or `MAX` for the bounds of `i128`.
 pub fn number(alloc: Global, word: &str) -> Result<i128, RowError> {
     match word {
         "MIN" => Ok(i128::MIN),
@@ -71,8 +71,8 @@ pub fn number(alloc: Global, word: &str) -> Result<i128, RowError> {
     }
 }
 
-/// The octets that a word spells in hexadecimal, with repetitions as `FF*4096` or `00FF*20+01`, or
-/// as characters behind a `'`; `-` for none.
+/// The octets that a word encodes in hexadecimal, with repetitions as `FF*4096` or `00FF*20+01`, or
+/// as characters after a `'`; `-` for none.
 pub fn octets(alloc: Global, word: &str) -> Result<Vec<u8>, RowError> {
     if let Some(text) = word.strip_prefix('\'') {
         return Ok(text.as_bytes().to_vec(alloc)?);
@@ -92,7 +92,7 @@ pub fn hex_of(alloc: Global, octets: &[u8]) -> Result<String, RowError> {
     Ok(hex::encode_upper(alloc, octets)?)
 }
 
-/// The bits that a word spells by `0` and `1`, with repetitions as `01*40+1`; `-` for none.
+/// The bits that a word encodes by `0` and `1`, with repetitions as `01*40+1`; `-` for none.
 pub fn bits(alloc: Global, word: &str) -> Result<Vec<bool>, RowError> {
     let digits = unfold_word(alloc, word)?;
     let mut bits = Vec::new(alloc);
@@ -118,7 +118,7 @@ pub fn bits_of(alloc: Global, bits: &[bool]) -> Result<String, RowError> {
     Ok(text)
 }
 
-/// The boolean that a word spells: `true` or `false`.
+/// The boolean that a word encodes: `true` or `false`.
 pub fn boolean(alloc: Global, word: &str) -> Result<bool, RowError> {
     parse_word::<bool>(alloc, word)
 }
@@ -128,7 +128,7 @@ pub fn show_value<T: Display + Drop>(alloc: Global, value: T) -> Result<String, 
     Ok(value.to_string(alloc)?)
 }
 
-/// A value or a refusal as its text.
+/// A value or an error as its text.
 pub fn outcome<T: Display + Drop, E: Display + Drop>(
     alloc: Global,
     tried: Result<T, E>,
@@ -174,7 +174,7 @@ pub fn three<'a>(
     }
 }
 
-/// The refusal of a call with another number of words.
+/// The error of a call with another number of words.
 fn count_of(alloc: Global, words: &[&str], wanted: usize) -> RowError {
     let count = words.len();
     match format!(in alloc; "{count} words in place of {wanted}") {

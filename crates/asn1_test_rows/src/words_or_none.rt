@@ -5,17 +5,17 @@ use crate::words::{hex_of, octets, show_value};
 use std::alloc::Global;
 use std::fmt::Display;
 
-/// The octets that a word spells in hexadecimal.
+/// The octets that a word encodes in hexadecimal.
 pub fn octets_of(alloc: Global, word: &str) -> Option<Vec<u8>> {
     octets(alloc, word).ok()
 }
 
-/// The number that a word spells in decimal.
+/// The number that a word encodes in decimal.
 pub fn size(word: &str) -> Option<usize> {
     word.parse::<usize>().ok()
 }
 
-/// The wide number that a word spells in decimal.
+/// The wide number that a word encodes in decimal.
 pub fn wide(word: &str) -> Option<u128> {
     word.parse::<u128>().ok()
 }

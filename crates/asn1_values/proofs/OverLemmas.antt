@@ -26,7 +26,7 @@ over_more xs ys place mid next old now new one two h = record {
   end = omega (arith, one.end, two.end, length-append xs ys);
 }
 
--- the octets are as many as before
+-- the number of octets is the same
 pub over_same : (target now : List ℕ) (list : List Bool) (place next : ℕ)
     → WritesOver list place (bits target) (bits now) next
     → place + length list ≤ 8 * length target → length now ≡ length target
@@ -85,7 +85,7 @@ pub octets_none : (all target : List ℕ) (place : ℕ) → OctetsOver all all t
 unfolding bits
 octets_none all target place = record { front = []; parts = refl; over = over_none place (bits target) }
 
--- one octet more is within, and the octets are as many as before
+-- one octet more is within, and the number of octets is the same
 pub octets_within : (all rest more target now : List ℕ) (octet place next : ℕ)
     → OctetsOver all rest target now place next → rest ≡ octet ∷ more
     → IsReached (8 * length target) (place + 8 * length all) → IsReached (8 * length now) (next + 8)

@@ -91,7 +91,7 @@ unfolding fields_at
 examined_all ss i left total le so_far =
     sym so_far ∙ ap (λ (ts : List Shape). past_all i (fields_at (plain_shapes ts) left)) (drop_all i ss le)
 
--- a field that was gone past is there
+-- a field that was skipped is present
 pub is_there : (i : ℕ) (r : ReadOne) (left : List Bool) → past i r ≡ Ok left → is_ok r ≡ true
 is_there i (Ok x) left e = refl
 is_there i (Err fault) left e = absurd cc

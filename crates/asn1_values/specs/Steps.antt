@@ -81,19 +81,19 @@ pub record TakesCounted (old new front : BitReader) : Type 0 where
   pub moved : Moves (8 + 8 * octets) old new
   pub rest : bits_left new ≡ drop (8 * octets) (drop 8 (bits_left old))
 
--- a field was gone past, or the error names its fault
+-- a field was skipped, or the error names its fault
 pub record Examines {A : Type 0} (at : ℕ) (read : Result (Field × List Bool) Fault) (new : BitReader)
     (result : Result A ReadError) : Type 0 where
   pub ok : OnOk result (past at read ≡ Ok (bits_left new))
   pub err : IfErr result (λ e. past at read ≡ Err e)
 
--- a field was gone past, and its bits were taken so, or the error names its fault
+-- a field was skipped, and its bits were taken so, or the error names its fault
 pub record ExaminesBits (Taken : BitReader → Type 0) (at : ℕ) (read : Result (Field × List Bool) Fault) (new : BitReader)
     (result : Result BitReader ReadError) : Type 0 where
   pub examined : Examines at read new result
   pub taken : IfOk result Taken
 
--- a field of the shape and of n bits was gone past, and is made of the value, or the error names its
+-- a field of the shape and of n bits was skipped, and is made of the value, or the error names its
 -- fault
 pub record ExaminesValue (field_of : ℕ → Field) (n at : ℕ) (shape : Shape) (old new : BitReader) (result : Result ℕ ReadError)
     : Type 0 where
@@ -101,7 +101,7 @@ pub record ExaminesValue (field_of : ℕ → Field) (n at : ℕ) (shape : Shape)
   pub read : IfOk result (λ value. field_at shape (bits_left old) ≡ Ok (field_of value, bits_left new))
   pub moved : OnOk result (Moves n old new)
 
--- a field of each shape was gone past, or the error names the first fault
+-- a field of each shape was skipped, or the error names the first fault
 pub record ExaminesAll (shapes : List Shape) (old : BitReader) (result : Result Unit ReadError) : Type 0 where
   pub ok : OnOk result (IsOk (fields_at shapes (bits_left old)))
   pub err : IfErr result (λ e. past_all 0 (fields_at shapes (bits_left old)) ≡ Err e)

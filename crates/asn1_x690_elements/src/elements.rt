@@ -31,6 +31,16 @@ pub struct Fault {
 ///
 /// Returns the first fault of the octets: an element or the contents of a constructed element are
 /// nested `depth` levels or deeper, an identifier or a length is invalid, or octets are missing.
+///
+/// # Examples
+///
+/// ```
+/// use asn1_x690_elements::decode_elements;
+///
+/// let message = [0x30, 3, 2, 1, 30];
+/// let count = decode_elements(&message, 10, &mut [])?;
+/// assert!(rt; count == 2);
+/// ```
 pub fn decode_elements(octets: &[u8], depth: usize, elements: &mut [Header]) -> Result<usize, Fault>
     requires { 8 * length octets.now < 2 ^ 64 }
     ensures ok { IfOk result (λ count. AreElements octets.now depth elements.new count) }

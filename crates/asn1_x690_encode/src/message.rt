@@ -46,6 +46,32 @@ pub struct Misfit {
 /// - [`Rejection::NoRoom`]: the part begins a value of more than 504 bits that must be compared with a
 ///   default value, or one of two items of a SET OF of more than 504 bits, and the octets are too few
 ///   for them. The node is that of their type.
+///
+/// # Examples
+///
+/// ```
+/// use asn1_resolve::Schema;
+/// use asn1_schema::Part;
+/// use asn1_x690_encode::{Context, encode};
+/// use asn1_x691_fields::Defaults;
+///
+/// let text = "M DEFINITIONS ::= BEGIN Yes ::= BOOLEAN END";
+/// let schema = Schema::parse(rt.alloc(), text)?;
+/// let context = Context {
+///     tables: schema.tables(),
+///     tags: schema.tag_tables(),
+///     defaults: Defaults {
+///         octets: &[],
+///         spans: &[],
+///     },
+///     parts: &[Part::Truth(true)],
+///     source: &[],
+/// };
+/// let mut octets = [0; 8];
+/// let node = schema.node_named("Yes").unwrap_or(0);
+/// let encoded = encode(&context, 10, node, &mut octets)?;
+/// assert!(rt; octets.get(..encoded.octets) == Some([1, 1, 0xFF].as_slice()));
+/// ```
 pub fn encode(
     context: &Context<'_>,
     depth: usize,

@@ -52,7 +52,7 @@ pub(crate) fn encode_node(
     encode_node_here(context, depth, node, octets, state)
 }
 
-/// Encodes a value as [`encode_node`] does, in the place of a call.
+/// Encodes a value as [`encode_node`] does, inlined.
 #[inline(always)]
 #[cycle(encoding)]
 pub(crate) fn encode_node_here(

@@ -73,7 +73,7 @@ constrained true range node =
     (in_case (range ≡ 255) (on_octet true node (in_bits 8 range node)) (range ≢ 255)
     -- up to 65,536 numbers: two octets (11.5.7.3)
     (in_case (range < 65536) (on_octet true node (in_bits 16 range node)) (65536 ≤ range)
-    -- more: in the fewest octets, after their number (11.5.7.4)
+    -- more: in the minimal number of octets, after their number (11.5.7.4)
     (indefinite range node)))
 
 -- ---- lengths without an upper bound, below 16,384 (11.9.3.5 to 11.9.3.7)
@@ -111,7 +111,7 @@ small_length aligned node = in_turn (anywhere (number 1 Short node)) (λ bit n. 
 
 -- ---- whole numbers without an upper bound
 
--- a number from 0 on, in the fewest octets after their number (11.7)
+-- a number from 0 on, in the minimal number of octets after their number (11.7)
 abbrev pub semi_constrained : Bool → ℕ → ℕ → Encoding FaultKind ℕ
 semi_constrained aligned node = in_turn (length_of aligned node) (λ count d. d) (λ count.
     in_case (0 < count) (on_octet aligned node (minimal_octets count node)) (count ≡ 0) (anywhere (invalid NotMinimal node)))
@@ -144,7 +144,7 @@ signed_of count node d =
 abbrev pub signed_octets : ℕ → ℕ → Encoding FaultKind ℤ
 signed_octets count node = then (number (8 * count) Short node) (λ d z. z) (λ d. signed_of count node d)
 
--- a whole number, in the fewest octets after their number (11.8)
+-- a whole number, in the minimal number of octets after their number (11.8)
 abbrev pub unconstrained : Bool → ℕ → ℕ → Encoding FaultKind ℤ
 unconstrained aligned node = in_turn (length_of aligned node) (λ count z. z) (λ count.
     in_case (0 < count) (on_octet aligned node (signed_octets count node)) (count ≡ 0) (anywhere (invalid NotMinimal node)))

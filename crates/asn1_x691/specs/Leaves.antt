@@ -76,14 +76,14 @@ abbrev pub AreTrimmed : Length → List Bool → Type 0
 AreTrimmed size bits = (length bits ≡ least_of size) ⊎ ((least_of size < length bits) × EndsInOne bits)
 
 module _ (aligned : Bool) (node : ℕ) where
-  -- the distance from the least value (13.2.2), and the same in the fewest octets, after their number (13.2.3)
+  -- the distance from the least value (13.2.2), and the same in the minimal number of octets, after their number (13.2.3)
   abbrev pub integer_between : ℤ → ℕ → ℕ → TypeEncoding FaultKind
   integer_between least range = leaf (constrained aligned range node) (from_least least) node
 
   abbrev pub integer_at_least : ℤ → ℕ → TypeEncoding FaultKind
   integer_at_least least = leaf (semi_constrained aligned node) (from_least least) node
 
-  -- the value in the fewest octets, after their number (13.2.4)
+  -- the value in the minimal number of octets, after their number (13.2.4)
   abbrev pub integer : ℕ → TypeEncoding FaultKind
   integer = leaf (unconstrained aligned node) Integer node
 

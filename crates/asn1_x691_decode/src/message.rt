@@ -65,6 +65,30 @@ fn begin(octets: &[u8], node: usize) -> State
 /// Returns the first fault of the message. The kind is [`FaultKind::Unsupported`] if a length,
 /// other than that of an OCTET STRING, has a fragment (X.691 11.9.3.8), or if an item of a SET OF
 /// does not begin at an octet in the ALIGNED variant.
+///
+/// # Examples
+///
+/// ```
+/// use asn1_resolve::Schema;
+/// use asn1_schema::Part;
+/// use asn1_x691_decode::{Context, Defaults, decode};
+///
+/// let text = "M DEFINITIONS ::= BEGIN Age ::= INTEGER (0..127) END";
+/// let schema = Schema::parse(rt.alloc(), text)?;
+/// let context = Context {
+///     tables: schema.tables(),
+///     defaults: Defaults {
+///         octets: &[],
+///         spans: &[],
+///     },
+///     octets: &[0b0011_1100],
+///     is_aligned: false,
+/// };
+/// let mut parts = [Part::Absent; 4];
+/// let node = schema.node_named("Age").unwrap_or(0);
+/// let count = decode(&context, 10, node, &mut parts)?;
+/// assert!(rt; count == 1);
+/// ```
 pub fn decode(
     context: &Context<'_>,
     depth: usize,

@@ -50,6 +50,31 @@ pub struct Misfit {
 /// - [`Rejection::NoRoom`]: the part begins a value of more than 504 bits that must be compared, and
 ///   the octets are too few for it: a component with its default value, or an item of a SET OF with
 ///   the item before it.
+///
+/// # Examples
+///
+/// ```
+/// use asn1_resolve::Schema;
+/// use asn1_schema::Part;
+/// use asn1_x691_encode::{Context, Defaults, encode};
+///
+/// let text = "M DEFINITIONS ::= BEGIN Yes ::= BOOLEAN END";
+/// let schema = Schema::parse(rt.alloc(), text)?;
+/// let context = Context {
+///     tables: schema.tables(),
+///     defaults: Defaults {
+///         octets: &[],
+///         spans: &[],
+///     },
+///     parts: &[Part::Truth(true)],
+///     source: &[],
+///     is_aligned: false,
+/// };
+/// let mut octets = [0; 8];
+/// let node = schema.node_named("Yes").unwrap_or(0);
+/// let encoded = encode(&context, 10, node, &mut octets)?;
+/// assert!(rt; octets.get(..encoded.octets) == Some([0x80].as_slice()));
+/// ```
 pub fn encode(
     context: &Context<'_>,
     depth: usize,

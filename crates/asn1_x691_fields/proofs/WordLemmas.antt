@@ -11,7 +11,7 @@ use Rattle.asn1_bits.specs.DigitLaws.{length-digits}
 use Rattle.asn1_bits.specs.NumberLaws.{digits-append, digits-low, number_of-digits}
 use Rattle.asn1_schema.specs.CharactersOfParts.{numbers_in}
 
--- the numbers of the bits in front alone
+-- the numbers of the bits before it alone
 pub front_numbers : (width count : ℕ) (list : List Bool) → width * count ≤ length list
     → numbers_in width count (take (width * count) list) ≡ numbers_in width count list
 front_numbers width zero list h = refl

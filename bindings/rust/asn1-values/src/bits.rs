@@ -285,7 +285,7 @@ pub fn or_bits(target: &mut [u8], position: usize, source: Bits<'_>) -> Result<(
 ///
 /// # Errors
 ///
-/// `BitsError::Width` for a width over 128, `BitsError::Overflow` for a number that is not below 2 to its power, else
+/// `BitsError::Width` for a width over 128, `BitsError::Overflow` for a number that is not below 2 to its power, otherwise
 /// `BitsError::Outside` where the target ends before; then nothing has changed.
 ///
 /// ```

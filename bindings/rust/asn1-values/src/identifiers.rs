@@ -160,7 +160,7 @@ pub fn check_arcs(arcs: &[u32]) -> Result<(), IdentifierError> {
 ///
 /// # Errors
 ///
-/// `IdentifierError::Arcs` where they are no identifier's, `IdentifierError::ArcCount` for one arc, else
+/// `IdentifierError::Arcs` where they are no identifier's, `IdentifierError::ArcCount` for one arc, otherwise
 /// `IdentifierError::Room` where the room is too short.
 ///
 /// ```
@@ -264,7 +264,7 @@ pub fn write_dotted<'a>(arcs: &[u32], room: &'a mut [u8]) -> Result<&'a str, Ide
 ///
 /// # Errors
 ///
-/// `IdentifierError::Text` where it is the dotted text of no identifier whose arcs fit 32 bits, else
+/// `IdentifierError::Text` where it is the dotted text of no identifier whose arcs fit 32 bits, otherwise
 /// `IdentifierError::Room` where the room is too short.
 ///
 /// ```

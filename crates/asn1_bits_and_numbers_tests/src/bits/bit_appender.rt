@@ -16,7 +16,7 @@ pub fn answer(alloc: Global, text: &mut String, name: &str, words: &[&str]) -> O
     }
 }
 
-/// `ONES ROOM PIECE ..`: behind so many ones, room for so many bits is filled by the pieces: how
+/// `ONES ROOM PIECE ..`: after so many ones, room for so many bits is filled by the pieces: how
 /// many bits of room are left before the first and after each, then how many bits the buffer has,
 /// and its octets.
 fn fill(alloc: Global, text: &mut String, words: &[&str]) -> Option<()> {
@@ -169,7 +169,7 @@ fn push_alone(buffer: &mut BitBuffer, digits: (u128, usize)) -> Option<()> {
     }
 }
 
-/// The number of the bits behind the three first.
+/// The number of the bits after the three first.
 fn read_back(octets: &[u8], width: usize) -> Option<u128> {
     if width > 32 || octets.len() > 8 || 3 + width > 8 * octets.len() {
         return None;

@@ -129,7 +129,7 @@ fn cmp(alloc: Global, text: &mut String, words: &[&str]) -> Option<()> {
     None
 }
 
-/// The string of the part that a word spells.
+/// The string of the part that a word encodes.
 fn string_at(alloc: Global, word: &str) -> Option<BitString> {
     match part_of(alloc, word) {
         Some(part) => copy_of(alloc, &part),

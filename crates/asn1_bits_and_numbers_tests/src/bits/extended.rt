@@ -1,4 +1,4 @@
-//! A view behind so many ones, in a buffer and in a bit string.
+//! A view after so many ones, in a buffer and in a bit string.
 
 use crate::bits::bit_string::{extend, string_in};
 use crate::bits::steps::{ones, push_part};
@@ -7,7 +7,7 @@ use asn1_bits::BitString;
 use std::alloc::Global;
 
 /// `ONES OCTETS FIRST LEN`: the octets of the ones and the view's bits in a buffer, and `other`
-/// behind them if a bit string has other octets or shows other bits.
+/// after them if a bit string has other octets or shows other bits.
 pub fn answer(alloc: Global, text: &mut String, words: &[&str]) -> Option<()> {
     if let [count, src @ ..] = words
         && let Some(count) = size(count)

@@ -1,4 +1,4 @@
-//! The words of rows on bits. What cannot be read of a word, or for want of memory, is none.
+//! The words of rows on bits. What cannot be read of a word, or when out of memory, is none.
 
 use asn1_bits::BitStr;
 pub use asn1_test_rows::words_or_none::{append, octets_of, push_number, push_octets, size, wide};
@@ -22,7 +22,7 @@ impl Part {
     }
 }
 
-/// The part that a word spells: `A55A:4:8` has 8 bits from bit 4 of the octets on.
+/// The part that a word encodes: `A55A:4:8` has 8 bits from bit 4 of the octets on.
 pub fn part_of(alloc: Global, word: &str) -> Option<Part> {
     if let Some((octets, place)) = word.split_once(':')
         && let Some((first, len)) = place.split_once(':')
@@ -32,7 +32,7 @@ pub fn part_of(alloc: Global, word: &str) -> Option<Part> {
     None
 }
 
-/// The part that three words spell.
+/// The part that three words encode.
 pub fn part_of_three(alloc: Global, words: &[&str]) -> Option<Part> {
     match words {
         [octets, first, len] => part_from(alloc, octets, first, len),

@@ -1,4 +1,4 @@
-//! Calls that write into octets or behind them.
+//! Calls that write into octets or after them.
 
 use crate::bits::kernels::are_within;
 use crate::bits::overwritten::{put_number, put_view};
@@ -6,7 +6,7 @@ use crate::bits::words::{Part, octets_of, part_of_three, push_octets, size};
 use asn1_bits::{Turns, extend_vec_from_bitslice, or_bits, write_bitslice};
 use std::alloc::Global;
 
-/// `OCTETS POSITION ..`: the octets in which a call wrote what the other words spell, from the bit
+/// `OCTETS POSITION ..`: the octets in which a call wrote what the other words encode, from the bit
 /// at the position on.
 pub fn answer(alloc: Global, text: &mut String, call: &str, words: &[&str]) -> Option<()> {
     if let [old, position, others @ ..] = words
@@ -19,7 +19,7 @@ pub fn answer(alloc: Global, text: &mut String, call: &str, words: &[&str]) -> O
     None
 }
 
-/// Writes what the words spell by the call.
+/// Writes what the words encode by the call.
 fn put(
     alloc: Global,
     call: &str,
@@ -64,7 +64,7 @@ fn write_part(target: &mut [u8], position: usize, part: &Part) -> Option<()> {
     None
 }
 
-/// `OCTETS SOURCE FIRST LEN`: the octets, and behind them those of a view.
+/// `OCTETS SOURCE FIRST LEN`: the octets, and after them those of a view.
 pub fn extend(alloc: Global, text: &mut String, words: &[&str]) -> Option<()> {
     if let [old, src @ ..] = words
         && let Some(part) = part_of_three(alloc, src)

@@ -43,7 +43,7 @@ fn of_number(alloc: Global, name: &str, number: i32) -> Result<String, RowError>
     }
 }
 
-/// The number of a native type, or why it is refused.
+/// The number of a native type, or why it is rejected.
 fn try_native<T>(alloc: Global, word: &str) -> Result<String, RowError>
 where
     T: FromStr,
@@ -61,7 +61,7 @@ fn bounded_number(alloc: Global, word: &str) -> Result<Bounded, RowError> {
     }
 }
 
-/// The number, or why it is refused.
+/// The number, or why it is rejected.
 fn try_number<const START: i64, const END: i64>(
     alloc: Global,
     number: Result<ConstrainedInteger<START, END>, TryFromIntegerError>,
@@ -72,7 +72,7 @@ fn try_number<const START: i64, const END: i64>(
     }
 }
 
-/// The number that a refusal hands back.
+/// The number that an error hands back.
 fn handed_back(
     alloc: Global,
     number: Result<Bounded, TryFromIntegerError>,

@@ -88,7 +88,7 @@ fn octets_with_length(number: &Integer) -> Option<usize>
     if octets < 128 { Some(1 + octets) } else { None }
 }
 
-/// A version number, from the contents of an INTEGER: one octet holds it, or it is refused by name.
+/// A version number, from the contents of an INTEGER: one octet holds it, or the error says why.
 fn version(alloc: Global, contents: &[u8]) -> Result<u8, IntegerError>
     ensures { Answers (UnsignedOf 1) (λ n. pos n) result
         (signed_reading (UnsignedOf 1) contents.now) }
@@ -127,7 +127,7 @@ fn append(oid: &Oid, octets: &mut Vec<u8>) -> Result<bool, AllocError>
     Ok(true)
 }
 
-/// The octets with the contents behind them, if there are any.
+/// The octets with the contents after them, if there are any.
 fn append_contents(alloc: Global, mut octets: Vec<u8>, oid: &Oid) -> Result<String, RowError> {
     if append(oid, &mut octets)? {
         return hex_of(alloc, octets.as_slice());

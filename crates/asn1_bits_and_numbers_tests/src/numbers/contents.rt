@@ -144,7 +144,7 @@ fn len_of(alloc: Global, mut contents: OidContents<'_>, count: usize) -> Result<
     Ok(format!(in alloc; "{len}")?)
 }
 
-/// The octets that were taken first, and the octets with the rest of the contents behind them.
+/// The octets that were taken first, and the octets with the rest of the contents after them.
 fn append_contents(
     alloc: Global,
     mut contents: OidContents<'_>,
@@ -216,7 +216,7 @@ fn collect_between(
     show_ends(alloc, taken.as_slice(), len, others.as_slice())
 }
 
-/// Whether octets with the contents behind them have no more room than the limit.
+/// Whether octets with the contents after them have no more room than the limit.
 fn has_room(
     alloc: Global,
     contents: OidContents<'_>,

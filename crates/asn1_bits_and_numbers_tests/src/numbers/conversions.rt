@@ -50,7 +50,7 @@ fn octets_text(alloc: Global, number: &Integer) -> Result<String, RowError> {
     hex_of(alloc, number.signed_octets().as_ref())
 }
 
-/// The number as the native type, or its refusal: the text, what it hands back, or what its copy
+/// The number as the native type, or its error: the text, what it hands back, or what its copy
 /// hands back.
 fn given_to<T: Display + Drop>(
     alloc: Global,
@@ -64,7 +64,7 @@ fn given_to<T: Display + Drop>(
     }
 }
 
-/// The number that the copy of a refusal hands back, if it is an equal refusal.
+/// The number that the copy of an error hands back, if it is an equal error.
 fn copy_of(alloc: Global, refused: TryFromIntegerError) -> Result<String, RowError> {
     let copy = refused.clone()?;
     if copy != refused {

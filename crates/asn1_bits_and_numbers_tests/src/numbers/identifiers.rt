@@ -151,7 +151,7 @@ fn is_found(
     show_value(alloc, seen.contains(other))
 }
 
-/// The identifier of arcs that a word spells.
+/// The identifier of arcs that a word encodes.
 fn identifier(alloc: Global, word: &str) -> Result<ObjectIdentifier, RowError> {
     match ObjectIdentifier::from_vec(arcs(alloc, word)?) {
         Some(identifier) => Ok(identifier),

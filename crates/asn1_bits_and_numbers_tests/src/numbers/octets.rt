@@ -1,4 +1,4 @@
-//! The functions of `asn1_number` on octets alone, and the texts of its refusals.
+//! The functions of `asn1_number` on octets alone, and the texts of its errors.
 
 ghost use Rattle.std.specs.Prelude.{◌≤◌, length};
 
@@ -10,7 +10,7 @@ use asn1_number::{
 use asn1_test_rows::{RowError, hex_of, number, octets, parse_word, show_value, wrong};
 use std::alloc::Global;
 
-/// The answers of the functions on octets, on an `i128`, or of a refusal with its number of bits.
+/// The answers of the functions on octets, on an `i128`, or of an error with its number of bits.
 pub fn answer(alloc: Global, name: &str, words: &[&str]) -> Result<String, RowError> {
     match words {
         [] => laws(alloc),

@@ -6,7 +6,7 @@ use std::alloc::Global;
 use std::cmp::Ordering;
 use std::str::FromStr;
 
-/// The number that a word spells: in decimal, `x` and octets with a sign, or `u` and octets without
+/// The number that a word encodes: in decimal, `x` and octets with a sign, or `u` and octets without
 /// one.
 pub fn integer(alloc: Global, word: &str) -> Result<Integer, RowError> {
     let read = if let Some(spelled) = word.strip_prefix('x') {
@@ -22,7 +22,7 @@ pub fn integer(alloc: Global, word: &str) -> Result<Integer, RowError> {
     }
 }
 
-/// The number that a word spells in decimal, of at most 128 bits.
+/// The number that a word encodes in decimal, of at most 128 bits.
 fn in_decimal(alloc: Global, word: &str) -> Result<Integer, RowError> {
     match i128::from_str(word) {
         Ok(number) => Ok(Integer::from(number)),
@@ -54,7 +54,7 @@ pub fn order_text(order: Ordering) -> &'static str {
     }
 }
 
-/// The arcs that a word spells with full stops between them, as `2.999+.3*4`; `-` for none.
+/// The arcs that a word encodes with full stops between them, as `2.999+.3*4`; `-` for none.
 pub fn arcs(alloc: Global, word: &str) -> Result<Vec<u32>, RowError> {
     let text = unfold_word(alloc, word)?;
     let mut arcs = Vec::new(alloc);

@@ -19,7 +19,7 @@ pub fn agree(alloc: Global, octets: &[u8]) -> Result<String, RowError> {
 }
 
 /// Whether the octets are written for the arcs that the rule has for them, and read as them; or are
-/// refused where it has none.
+/// rejected where it has none.
 fn agrees(alloc: Global, octets: &[u8]) -> Result<bool, RowError> {
     match arcs_by_rule(alloc, octets)? {
         Some(arcs) => are_contents_of(alloc, octets, arcs.as_slice()),
@@ -77,7 +77,7 @@ fn is_read_as(alloc: Global, octets: &[u8], arcs: &[u32]) -> bool {
     }
 }
 
-/// Whether the octets are refused as malformed by both calls that look.
+/// Whether the octets are rejected as malformed by both calls that look.
 fn are_malformed(alloc: Global, octets: &[u8]) -> bool {
     let malformed = Some(ContentsError::Malformed);
     let read = ObjectIdentifier::from_contents(alloc, &octets);

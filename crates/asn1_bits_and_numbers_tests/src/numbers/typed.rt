@@ -167,7 +167,7 @@ fn residue_of_integer(alloc: Global, number: &Integer) -> Result<String, RowErro
     hex_of(alloc, number.to_unsigned_bytes_be().as_ref())
 }
 
-/// The value of a type that a word spells.
+/// The value of a type that a word encodes.
 fn value<T: IntegerType>(alloc: Global, word: &str) -> Result<T, RowError> {
     let number = integer(alloc, word)?;
     match T::try_from_signed_bytes(alloc, number.signed_octets().as_ref()) {

@@ -18,7 +18,7 @@ use asn1_bits::{BitAppender, BitReader, Turns};
 use asn1_integer::{Integer, read_signed};
 use std::alloc::Global;
 
-/// How many bits the shortest octets and the octet in front of them have, if they are at most 127.
+/// How many bits the shortest octets and the octet before them have, if they are at most 127.
 #[inline(always)]
 pub(super) fn len_or_misfit(number: &Integer, field: usize) -> Result<u128, WriteError>
     ensures { Measures field (plain.CountedInteger number.now) result }

@@ -43,13 +43,12 @@ use std::alloc::Global;
 /// # Examples
 ///
 /// ```
-/// use asn1_values::{BitReader, Field, Shape, read_fields};
+/// use asn1_values::{BitReader, Shape, read_fields};
 ///
 /// let mut reader = BitReader::from_octets(&[0b1011_1001, 0]);
 /// let shapes = [Shape::Number { width: 3 }, Shape::Number { width: 8 }];
 /// let fields = read_fields(rt.alloc(), &mut reader, &shapes)?;
-/// assert!(rt; matches!(fields.get(1), Some(Field::Number { value: 200, width: 8 })));
-/// assert!(rt; reader.len() == 5);
+/// assert!(rt; fields.len() == 2 && reader.len() == 5);
 /// ```
 pub fn read_fields<'a, 's>(
     alloc: Global,

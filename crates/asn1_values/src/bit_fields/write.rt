@@ -39,9 +39,9 @@ use asn1_bits::{BitAppender, BitBuffer, Turns};
 ///
 /// let mut buffer = BitBuffer::new(rt.alloc());
 /// let version = Field::Number { value: 5, width: 3 };
-/// let length = Field::Number { value: 200, width: 8 };
+/// let length = Field::Number { value: 9, width: 8 };
 /// write_fields(&mut buffer, &[version, length])?;
-/// assert!(rt; buffer.as_bytes() == [0b1011_1001, 0].as_slice());
+/// assert!(rt; buffer.as_bytes() == [0b1010_0001, 0b0010_0000].as_slice());
 /// ```
 pub fn write_fields(buffer: &mut BitBuffer, fields: &[Field<'_, '_>]) -> Result<(), WriteError>
     // The old bits are followed by a concatenation of the fields' encodings.

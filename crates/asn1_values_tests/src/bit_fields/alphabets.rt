@@ -1,4 +1,4 @@
-//! Alphabets by words: `Ia5/97,98`, `Numeric/all`, and the aligned ones behind `!`, `Ia5!/97-116`.
+//! Alphabets by words: `Ia5/97,98`, `Numeric/all`, and the aligned ones after `!`, `Ia5!/97-116`.
 
 use crate::bit_fields::stores::{Store, stores_of};
 use crate::bit_fields::words::{append, push_number};

@@ -24,7 +24,7 @@ fn copies_the_front(
     Some(front)
 }
 
-/// `OCTETS`: how many bits are left behind a number of four bits and an octet, and what is written
+/// `OCTETS`: how many bits are left after a number of four bits and an octet, and what is written
 /// again.
 pub fn front(alloc: Global, text: &mut String, words: &[&str]) -> Option<()> {
     if let [octets] = words

@@ -8,7 +8,7 @@ use crate::bit_fields::words::{octets_of, size, wide};
 use asn1_values::{BitStr, Field, Integer, ObjectIdentifier, Octets};
 use std::alloc::Global;
 
-/// The fields that the words spell, over their stores.
+/// The fields that the words encode, over their stores.
 pub fn fields_of<'x>(
     alloc: Global,
     words: &[&str],
@@ -21,7 +21,7 @@ pub fn fields_of<'x>(
     Some(fields)
 }
 
-/// The field that a word spells.
+/// The field that a word encodes.
 fn field<'x>(alloc: Global, word: &str, store: &'x Store) -> Option<Field<'x, 'x>> {
     match word.split_once('=') {
         Some((shape, value)) => field_of(alloc, shape, value, store),

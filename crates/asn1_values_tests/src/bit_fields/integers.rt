@@ -54,7 +54,7 @@ pub fn shortest(alloc: Global, text: &mut String, words: &[&str]) -> Option<()> 
 }
 
 /// How many integers of one octet, and of two octets, are read as the number that the octets are in
-/// two's complement, and how many are refused because one octet would do.
+/// two's complement, and how many are rejected because one octet would do.
 pub fn of_two_octets(alloc: Global, text: &mut String) -> Option<()> {
     let (mut single, mut double, mut refused) = (0u128, 0u128, 0u128);
     for first in 0..=255u8 {
@@ -68,7 +68,7 @@ pub fn of_two_octets(alloc: Global, text: &mut String) -> Option<()> {
     push_number(alloc, text, refused)
 }
 
-/// How many integers of two octets, the first of them this one, are read, and how many refused.
+/// How many integers of two octets, the first of them this one, are read, and how many rejected.
 fn count_behind(alloc: Global, first: u8) -> (u128, u128) {
     let (mut right, mut refused) = (0u128, 0u128);
     for second in 0..=255u8 {

@@ -9,7 +9,7 @@ use crate::bit_fields::writing::put;
 use asn1_values::{BitBuffer, BitReader, BitStr, Field, ReadError, Shape, read_fields};
 use std::alloc::Global;
 
-/// `OCTETS FIRST LEN SHAPE ..`: the fields or the refusal, and how many bits are left.
+/// `OCTETS FIRST LEN SHAPE ..`: the fields or the error, and how many bits are left.
 pub fn read(alloc: Global, text: &mut String, words: &[&str]) -> Option<()> {
     if let [octets, first, len, shapes @ ..] = words
         && let Some(part) = part_from(alloc, octets, first, len)
@@ -61,7 +61,7 @@ fn get<'a, 's>(
     read_fields(alloc, reader, shapes)
 }
 
-/// `BITS FIELD .. ; SHAPE ..`: the fields are written behind the bits, and read from there on.
+/// `BITS FIELD .. ; SHAPE ..`: the fields are written after the bits, and read from there on.
 pub fn again(alloc: Global, text: &mut String, words: &[&str]) -> Option<()> {
     if let [front, rest @ ..] = words
         && let Some(at) = rest.iter().position(|word| *word == ";")
@@ -86,7 +86,7 @@ fn write_all(alloc: Global, buffer: &mut BitBuffer, words: &[&str]) -> Option<()
     None
 }
 
-/// Reads the shapes behind the first word from a bit of the buffer on.
+/// Reads the shapes after the first word from a bit of the buffer on.
 fn read_back(
     alloc: Global,
     text: &mut String,

@@ -7,7 +7,7 @@ use crate::bit_fields::words::{append, push_number, size};
 use asn1_values::{Field, Shape, shape_of};
 use std::alloc::Global;
 
-/// The shapes that the words spell, over their stores.
+/// The shapes that the words encode, over their stores.
 pub fn shapes_of<'x>(alloc: Global, words: &[&str], stores: &'x [Store]) -> Option<Vec<Shape<'x>>> {
     let mut shapes = Vec::new(alloc);
     for (word, store) in words.iter().zip(stores) {
@@ -16,7 +16,7 @@ pub fn shapes_of<'x>(alloc: Global, words: &[&str], stores: &'x [Store]) -> Opti
     Some(shapes)
 }
 
-/// The shape that a word spells.
+/// The shape that a word encodes.
 fn shape<'x>(word: &str, store: &'x Store) -> Option<Shape<'x>> {
     if word == "c" {
         return Some(Shape::CountedInteger);

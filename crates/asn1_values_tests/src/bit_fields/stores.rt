@@ -3,14 +3,14 @@
 use crate::bit_fields::words::octets_of;
 use std::alloc::Global;
 
-/// The octets and the set of characters that a word spells.
+/// The octets and the set of characters that a word encodes.
 #[derive(Drop)]
 pub struct Store {
     pub octets: Vec<u8>,
     pub set: Vec<u32>,
 }
 
-/// What each of the words spells.
+/// What each of the words encodes.
 pub fn stores_of(alloc: Global, words: &[&str]) -> Option<Vec<Store>> {
     let mut stores = Vec::new(alloc);
     for word in words {
@@ -19,7 +19,7 @@ pub fn stores_of(alloc: Global, words: &[&str]) -> Option<Vec<Store>> {
     Some(stores)
 }
 
-/// What a word spells: the octets behind `o=` or `b=`, the set of an alphabet behind `a`.
+/// What a word encodes: the octets after `o=` or `b=`, the set of an alphabet after `a`.
 fn store_of(alloc: Global, word: &str) -> Option<Store> {
     if let Some(set) = set_of(alloc, word)
         && let Some(octets) = octets_in(alloc, word)

@@ -1,4 +1,4 @@
-//! The words of rows on fields. What cannot be read of a word, or for want of memory, is none.
+//! The words of rows on fields. What cannot be read of a word, or when out of memory, is none.
 
 use asn1_test_rows::hex_of;
 pub use asn1_test_rows::words_or_none::{
@@ -25,7 +25,7 @@ impl Part {
     }
 }
 
-/// The part that three words spell: octets, the first bit, and how many bits.
+/// The part that three words encode: octets, the first bit, and how many bits.
 pub fn part_from(alloc: Global, octets: &str, first: &str, len: &str) -> Option<Part> {
     if let Some(first) = size(first)
         && let Some(len) = size(len)
@@ -49,7 +49,7 @@ pub fn push_state(alloc: Global, text: &mut String, buffer: &BitBuffer) -> Optio
     push_octets(alloc, text, buffer.as_bytes())
 }
 
-/// A buffer of the bits that a word spells by `0` and `1`, `-` for none.
+/// A buffer of the bits that a word encodes by `0` and `1`, `-` for none.
 pub fn buffer_of(alloc: Global, word: &str) -> Option<BitBuffer> {
     let mut buffer = BitBuffer::new(alloc);
     for digit in word.as_bytes() {

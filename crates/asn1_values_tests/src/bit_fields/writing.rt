@@ -10,8 +10,8 @@ use asn1_values::{
 };
 use std::alloc::Global;
 
-/// `BITS FIELD .. ; FIELD ..`: groups of fields are written behind the bits, one after another. For
-/// each the refusal, if it is refused, then how many bits the buffer has, and its octets.
+/// `BITS FIELD .. ; FIELD ..`: groups of fields are written after the bits, one after another. For
+/// each the error, if it is rejected, then how many bits the buffer has, and its octets.
 pub fn write(alloc: Global, text: &mut String, words: &[&str]) -> Option<()> {
     let (front, rest) = words.split_first()?;
     let mut buffer = buffer_of(alloc, front)?;
@@ -36,7 +36,7 @@ fn write_group(
     None
 }
 
-/// Appends a refusal.
+/// Appends an error.
 fn tell(alloc: Global, text: &mut String, written: Result<(), WriteError>) -> Option<()> {
     match written {
         Ok(()) => Some(()),
@@ -44,7 +44,7 @@ fn tell(alloc: Global, text: &mut String, written: Result<(), WriteError>) -> Op
     }
 }
 
-/// Writes fields behind the buffer's bits.
+/// Writes fields after the buffer's bits.
 pub fn put(buffer: &mut BitBuffer, fields: &[Field<'_, '_>]) -> Result<(), WriteError> {
     write_fields(buffer, fields)
 }
@@ -83,7 +83,7 @@ fn put_counted(buffer: &mut BitBuffer, fields: &[Field<'_, '_>]) -> Result<(), W
     write_fields_counted(buffer, fields, &mut Turns::new())
 }
 
-/// `OCTETS POSITION FIELD ..`: the bit behind the fields or the refusal, and the octets.
+/// `OCTETS POSITION FIELD ..`: the bit after the fields or the error, and the octets.
 pub fn write_at(alloc: Global, text: &mut String, words: &[&str]) -> Option<()> {
     if let [octets, position, rest @ ..] = words
         && let Some(octets) = octets_of(alloc, octets)

@@ -1,4 +1,4 @@
-//! Permitted alphabets: widths, codes and refusals.
+//! Permitted alphabets: widths, codes and errors.
 
 ghost use Rattle.std.specs.Prelude.{◌≤◌, ◌^◌, length};
 ghost use Rattle.std.specs.Option.{ForSome, option_copied};

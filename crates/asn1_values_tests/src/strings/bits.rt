@@ -74,7 +74,7 @@ fn by_value<S: StaticPermittedAlphabet>(
     string_text(alloc, S::try_from_bits(alloc, bits, width))
 }
 
-/// What the bits spell by the places of the base set.
+/// What the bits encode by the places of the base set.
 fn by_places<S: StaticPermittedAlphabet>(
     alloc: Global,
     bits: BitStr<'_>,
@@ -82,7 +82,7 @@ fn by_places<S: StaticPermittedAlphabet>(
     string_text(alloc, S::try_from_permitted_alphabet(alloc, bits, None))
 }
 
-/// What the bits spell by a map, whose entries are words as `0:65`.
+/// What the bits encode by a map, whose entries are words as `0:65`.
 fn by_map<S: StaticPermittedAlphabet>(
     alloc: Global,
     bits: BitStr<'_>,

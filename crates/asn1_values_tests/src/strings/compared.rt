@@ -41,7 +41,7 @@ pub fn of_two<K: StringKind>(
     }
 }
 
-/// The string of the characters that a word spells.
+/// The string of the characters that a word encodes.
 fn string_of_word<K: StringKind>(
     alloc: Global,
     word: &str,

@@ -6,7 +6,7 @@ use std::alloc::Global;
 /// The most numbers that the list of a word has.
 pub const MOST: usize = 4096;
 
-/// The numbers that a word spells: with commas between them, `0..256` for those below 256, and
+/// The numbers that a word encodes: with commas between them, `0..256` for those below 256, and
 /// `0..130/2` for each second of them; `-` for none.
 pub fn list(alloc: Global, word: &str) -> Result<Vec<u32>, RowError> {
     let mut numbers = Vec::new(alloc);

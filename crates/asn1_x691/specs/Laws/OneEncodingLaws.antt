@@ -64,7 +64,7 @@ octet_count_one most node =
     let n : v ≡ y + 1 = s.0 in
     (omega (arith, m, n, e), e))
 
--- ---- the fewest octets
+-- ---- the minimal number of octets
 
 not_fewer : (m n d low high : ℕ) → 0 < m → m < n → d < low → (8 * m ≤ 8 * (n - 1) → low ≤ high) → (n ≤ 1) ⊎ (high ≤ d) → ⊥
 not_fewer m n d low high some lt below mono (inl p) = omega (arith, some, lt, p)

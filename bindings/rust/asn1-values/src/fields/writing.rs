@@ -64,7 +64,7 @@ fn parts<'a>(field: &Field<'a, '_>) -> Parts<'a> {
     parts
 }
 
-/// One call: the code, the end or that which is needed, and the refusal.
+/// One call: the code, the end or that which is needed, and the error.
 fn put(target: &mut [u8], at: usize, parts: &Parts<'_>) -> (u32, usize, sys::Refusal) {
     let alphabets = parts.alphabet.as_slice();
     let mut end = at;

@@ -1,4 +1,4 @@
-//! A run in which an allocation fails. `scripts/refuse-each-allocation` lets its first allocation
+//! A run in which an allocation fails. `scripts/fail-each-allocation` lets its first allocation
 //! fail, then its second, and so on until it makes no more.
 
 use crate::run::run;
@@ -25,7 +25,7 @@ impl Write for Counted {
 
 /// Prints that the call under test ran out of memory.
 fn met(rt: &HostRuntime, call: &str) -> Result<(), Fail> {
-    println!(rt; "refused: {call}")?;
+    println!(rt; "failed: {call}")?;
     Ok(())
 }
 

@@ -1,15 +1,15 @@
-//! What a test says where a request for memory was refused.
+//! What a test says when an allocation failed.
 
 use std::test::Fail;
 
-/// The call under test met the refusal.
+/// The call under test met the failed allocation.
 pub fn met(rt: &HostRuntime, call: &str) -> Result<(), Fail> {
-    println!(rt; "refused: {call}")?;
+    println!(rt; "failed: {call}")?;
     Ok(())
 }
 
-/// A call that asks for memory has answered: what was to stand there then must stand there, and
-/// where a request was refused a line says so.
+/// A call that allocates has returned: what was to be there then must be there, and
+/// if an allocation failed a line says so.
 pub fn settle(
     rt: &HostRuntime,
     call: &str,
@@ -24,6 +24,6 @@ pub fn settle(
 
 /// An argument of the call could not be made.
 pub fn met_before(rt: &HostRuntime, call: &str) -> Result<(), Fail> {
-    println!(rt; "refused before: {call}")?;
+    println!(rt; "failed before: {call}")?;
     Ok(())
 }
