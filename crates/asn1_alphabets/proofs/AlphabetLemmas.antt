@@ -5,15 +5,15 @@ use Rattle.std.proofs.lemmas.Bool.{cases_lt}
 use Rattle.std.proofs.lemmas.Bool.Decides.{nat_tests}
 use Rattle.std.specs.Option.{MatchOption}
 use Rattle.asn1_characters.specs.Words.{in_words}
-use Rattle.asn1_characters.specs.SetLaws.{not_above}
-use Rattle.asn1_alphabets.specs.AlphabetLaws.{stands_in}
+use Rattle.asn1_characters.specs.Laws.SetLaws.{not_above}
+use Rattle.asn1_alphabets.specs.Laws.AlphabetLaws.{stands_in}
 use Rattle.std.specs.Borrow.{Bor}
 use Rattle.std.specs.Option.{is_some, ForSome}
 use Rattle.asn1_characters.specs.Sets.{base_set, has_character, largest}
 use Rattle.asn1_characters.specs.Widths.{ceil_log2, least_from, width_for}
 use Rattle.asn1_alphabets.specs.Alphabet.{is_indexed}
 use Rattle.asn1_alphabets.specs.AlphabetInMemory.{some_if, set_of, HasWords}
-use Rattle.asn1_characters.specs.TableLaws.{length-base_set, largest-base_set}
+use Rattle.asn1_characters.specs.Laws.TableLaws.{length-base_set, largest-base_set}
 use Rattle.asn1_characters.specs.declared.character_set.CharacterSetName.{CharacterSetName}
 use Rattle.asn1_characters.specs.declared.character_words.CharacterWords.{CharacterWords}
 use Rattle.asn1_characters.specs.declared.character_set.CharacterSetName.TheVariants.{Bmp, General, Graphic, IA5, Numeric, Printable, Teletex, Visible}

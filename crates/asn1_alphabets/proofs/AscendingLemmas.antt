@@ -9,7 +9,7 @@ use Rattle.std.specs.Prelude.{◌≢◌}
 use Rattle.std.specs.List.{AllPairs}
 use Rattle.std.specs.List.Sorted.{IsNonDecreasing}
 use Rattle.std.proofs.lemmas.List.{get_or_default}
-use Rattle.asn1_characters.specs.WidthLaws.{twice, ceil_log2_is_least}
+use Rattle.asn1_characters.specs.Laws.WidthLaws.{twice, ceil_log2_is_least}
 
 -- where a character is sought, and how many probes are left
 pub record Searching (list : List ℕ) (low high character start probes limit : ℕ) : Type 0 where

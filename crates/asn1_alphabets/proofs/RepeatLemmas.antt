@@ -7,7 +7,7 @@ use Rattle.std.specs.List.{list_all, flat_map, range_with_len}
 use Rattle.std.proofs.lemmas.Bool.Decides.{nat_tests}
 use Rattle.std.proofs.lemmas.List.Folds.{list_any-append}
 use Rattle.asn1_characters.specs.Sets.{ranges_of, base_set, characters_between, has_character}
-use Rattle.asn1_characters.specs.SetLaws.{lies_in, has_in_run, has_in_ranges}
+use Rattle.asn1_characters.specs.Laws.SetLaws.{lies_in, has_in_run, has_in_ranges}
 use Rattle.asn1_characters.specs.declared.character_set.CharacterSetName.{CharacterSetName}
 use Rattle.asn1_characters.specs.declared.character_set.CharacterSetName.TheVariants.{Bmp, General, Graphic, IA5, Numeric, Printable, Teletex, Visible}
 

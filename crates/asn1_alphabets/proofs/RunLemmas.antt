@@ -7,8 +7,8 @@ use Rattle.std.proofs.lemmas.List.{ext_get_or}
 use Rattle.std.proofs.lemmas.List.FromFn.{length-range_with_len, get_or-range_with_len}
 use Rattle.std.proofs.lemmas.Option.{slice_get-get_or}
 use Rattle.asn1_characters.specs.Sets.{has_character, largest}
-use Rattle.asn1_characters.specs.SetLaws.{has_in_run}
-use Rattle.asn1_characters.specs.TableLaws.{run_largest}
+use Rattle.asn1_characters.specs.Laws.SetLaws.{has_in_run}
+use Rattle.asn1_characters.specs.Laws.TableLaws.{run_largest}
 use Rattle.asn1_alphabets.specs.AlphabetInMemory.{IsRun}
 
 -- some characters, each as far from the first as its place

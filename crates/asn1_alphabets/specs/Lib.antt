@@ -5,5 +5,4 @@ pub mod AlphabetView
 pub mod AlphabetInMemory
 pub mod EffectiveSets
 -- Laws of these words, for the proofs of this crate and of those above it; no contract cites them.
-pub mod AlphabetLaws
-pub mod AlphabetViewLaws
+pub mod Laws

@@ -4,7 +4,7 @@ use Rattle.std.proofs.Math.Seq.{take-add}
 use Rattle.std.proofs.lemmas.List.{append-nil, length-append, length-take, length-set, length-replicate, take_all, drop_all, drop_at, take_at, take-take, take-append-le, take-replicate, drop_more, set_at, set-append_left, replicate_more, replicate-append-replicate}
 use Rattle.asn1_bits.specs.Bits.{digits, bits, octets_for, ored, padded, IsZeroFrom}
 use Rattle.asn1_bits.specs.BitBuffer.{bits_shown, IsFilled}
-use Rattle.asn1_bits.specs.DigitLaws.{length-bits, bits-append, bits-take}
+use Rattle.asn1_bits.specs.Laws.DigitLaws.{length-bits, bits-append, bits-take}
 use Rattle.asn1_bits.proofs.OredLemmas.{length-ored, ored-append_left, ored-onto}
 use Rattle.asn1_bits.proofs.ZeroLemmas.{zeros_behind, zero_from}
 

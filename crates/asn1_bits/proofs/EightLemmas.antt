@@ -8,9 +8,9 @@ use Rattle.std.proofs.lemmas.List.{length-append, length-take, length-drop, take
 use Rattle.std.proofs.lemmas.Nat.{shr-shr, shr_below, pow_pos, or_disjoint, le_bytes_8, mod_below}
 use Rattle.std.proofs.lemmas.Nat.Bits.{bit_at_and, bit_at-zero, bit_at_above, bit_at_cat_low, same_from_bits}
 use Rattle.asn1_bits.specs.Bits.{is_odd, digits, number, bits, ored, IsZeroFrom}
-use Rattle.asn1_bits.specs.NumberLaws.{number-append, number_of-digits}
-use Rattle.asn1_bits.specs.DigitLaws.{length-digits, length-bits, get_or-digits, get_or-bits, bits-append, bits-take, bits-drop}
-use Rattle.asn1_bits.specs.ByteLaws.{digits-mod, byte_at_is}
+use Rattle.asn1_bits.specs.Laws.NumberLaws.{number-append, number_of-digits}
+use Rattle.asn1_bits.specs.Laws.DigitLaws.{length-digits, length-bits, get_or-digits, get_or-bits, bits-append, bits-take, bits-drop}
+use Rattle.asn1_bits.specs.Laws.ByteLaws.{digits-mod, byte_at_is}
 use Rattle.asn1_bits.proofs.OredLemmas.{length-ored, get_or-ored_inside, get_or-ored_outside, ored-append_left}
 use Rattle.asn1_bits.proofs.BufferLemmas.{bits-zeros, digits-zero}
 use Rattle.asn1_bits.proofs.WindowLemmas.{is_odd-or, bits-octet, eight-small}

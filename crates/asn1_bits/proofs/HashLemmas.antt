@@ -6,7 +6,7 @@ use Rattle.std.proofs.lemmas.List.{take_all}
 use Rattle.std.proofs.lemmas.List.FromFn.{map-range_with_len_more}
 use Rattle.asn1_bits.specs.Bits.{digits, number}
 use Rattle.asn1_bits.specs.BitLists.{words_fed}
-use Rattle.asn1_bits.specs.NumberLaws.{number-digits}
+use Rattle.asn1_bits.specs.Laws.NumberLaws.{number-digits}
 
 -- before the first word nothing is fed
 pub fed-none : (list : List Bool) → words_fed list 0 ≡ []

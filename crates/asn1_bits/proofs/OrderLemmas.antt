@@ -8,7 +8,7 @@ use Rattle.std.specs.Cmp.Lexicographic.{slice_cmp}
 use Rattle.std.proofs.lemmas.List.{length-drop, length-take-le, take-append-drop}
 use Rattle.std.proofs.lemmas.Bool.{le-ltb, lt-ltb, eq-eqb, ne_eqb}
 use Rattle.asn1_bits.specs.Bits.{number}
-use Rattle.asn1_bits.specs.OrderLaws.{by_number, by_fronts, same_front}
+use Rattle.asn1_bits.specs.Laws.OrderLaws.{by_number, by_fronts, same_front}
 
 -- what is after fronts that are the same decides
 behind : (xs ys : List Bool) (n : ℕ) → take n xs ≡ take n ys

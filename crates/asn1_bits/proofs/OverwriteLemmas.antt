@@ -5,10 +5,10 @@ use Rattle.std.proofs.Math.Seq.{take-append-add, drop-append-add}
 use Rattle.std.proofs.lemmas.Nat.{one_shl, pow-add, pow_pos, div-add-mod', mul-add-lt, mod_below, shl_below, shr_below, shr_high}
 use Rattle.std.proofs.lemmas.List.{length-append, length-take, length-replicate, take-append-drop, take-append-le, drop-append-le, take_at, take_all, drop-drop, length-drop, drop_more, replicate-append-replicate, set_at}
 use Rattle.asn1_bits.specs.Bits.{digits, number, bits, ored, overwritten}
-use Rattle.asn1_bits.specs.DigitLaws.{length-digits, length-bits, bits-append, bits-drop, bits-take}
-use Rattle.asn1_bits.specs.ByteLaws.{digits-mod}
-use Rattle.asn1_bits.specs.NumberLaws.{number-append, number-below, number-digits, number_of-digits, digits_of-number, digits-append, digits-low}
-use Rattle.asn1_bits.specs.OverwrittenLaws.{overwritten-append}
+use Rattle.asn1_bits.specs.Laws.DigitLaws.{length-digits, length-bits, bits-append, bits-drop, bits-take}
+use Rattle.asn1_bits.specs.Laws.ByteLaws.{digits-mod}
+use Rattle.asn1_bits.specs.Laws.NumberLaws.{number-append, number-below, number-digits, number_of-digits, digits_of-number, digits-append, digits-low}
+use Rattle.asn1_bits.specs.Laws.OverwrittenLaws.{overwritten-append}
 use Rattle.asn1_bits.proofs.BufferLemmas.{digits-zero, bits-zeros}
 use Rattle.asn1_bits.proofs.OredLemmas.{ored-append_left, ored-zeros}
 use Rattle.asn1_bits.proofs.EightLemmas.{eight-stored}

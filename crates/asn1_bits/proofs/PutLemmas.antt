@@ -7,9 +7,9 @@ use Rattle.std.proofs.Math.Pow.{pow_mono}
 use Rattle.std.proofs.lemmas.Nat.{and_mask, shl_below}
 use Rattle.std.proofs.lemmas.List.{length-append, length-take, drop_at}
 use Rattle.asn1_bits.specs.Bits.{digits, bits, ored, IsZeroFrom}
-use Rattle.asn1_bits.specs.DigitLaws.{length-digits, length-bits}
-use Rattle.asn1_bits.specs.ByteLaws.{digits-mod, bits-bytes}
-use Rattle.asn1_bits.specs.NumberLaws.{digits-append}
+use Rattle.asn1_bits.specs.Laws.DigitLaws.{length-digits, length-bits}
+use Rattle.asn1_bits.specs.Laws.ByteLaws.{digits-mod, bits-bytes}
+use Rattle.asn1_bits.specs.Laws.NumberLaws.{digits-append}
 use Rattle.asn1_bits.proofs.OredLemmas.{length-ored, ored-append, ored-append_left}
 use Rattle.asn1_bits.proofs.ZeroLemmas.{zeros_behind, zeros-later}
 use Rattle.asn1_bits.proofs.RoomLemmas.{room-step, room-over, ored-room}

@@ -7,12 +7,12 @@ use Rattle.std.proofs.lemmas.List.{take_at, drop-drop, length-take, length-drop,
 use Rattle.std.proofs.lemmas.Nat.{shr_high, and_mask, or_shifted, shl_whole, shr_below, field_of, shr-shr, shl-shr}
 use Rattle.std.proofs.lemmas.Nat.Bits.{ones_shr}
 use Rattle.asn1_bits.specs.Bits.{digits, number, bits}
-use Rattle.asn1_bits.specs.DigitLaws.{length-digits, length-bits, bits-take, bits-push}
-use Rattle.asn1_bits.specs.ByteLaws.{digits-mod}
+use Rattle.asn1_bits.specs.Laws.DigitLaws.{length-digits, length-bits, bits-take, bits-push}
+use Rattle.asn1_bits.specs.Laws.ByteLaws.{digits-mod}
 use Rattle.asn1_bits.proofs.WindowLemmas.{low-part, shifted-digits}
-use Rattle.asn1_bits.specs.NumberLaws.{number_is, number-append, number-digits, number-lt, digits-append, digits-low}
+use Rattle.asn1_bits.specs.Laws.NumberLaws.{number_is, number-append, number-digits, number-lt, digits-append, digits-low}
 use Rattle.asn1_bits.specs.View.{View, IsWithin, list_of}
-use Rattle.asn1_bits.specs.ViewLaws.{length-list_of, list_of-part}
+use Rattle.asn1_bits.specs.Laws.ViewLaws.{length-list_of, list_of-part}
 
 -- the number of the bits of the first k octets, but for the first shift bits
 abbrev pub gathered : List ℕ → ℕ → ℕ → ℕ

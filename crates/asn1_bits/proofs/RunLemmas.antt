@@ -4,7 +4,7 @@ use Rattle.std.specs.Prelude.{bit_or}
 use Rattle.std.proofs.Math.Seq.{take-add}
 use Rattle.std.proofs.lemmas.List.{length-take, length-drop, drop-drop}
 use Rattle.asn1_bits.specs.Bits.{digits, bits, ored, IsZeroFrom}
-use Rattle.asn1_bits.specs.DigitLaws.{length-bits, bits-take, bits-drop}
+use Rattle.asn1_bits.specs.Laws.DigitLaws.{length-bits, bits-take, bits-drop}
 use Rattle.asn1_bits.proofs.OredLemmas.{ored-append}
 use Rattle.asn1_bits.proofs.EightLemmas.{eight-stored}
 use Rattle.asn1_bits.proofs.RoomLemmas.{room-over}

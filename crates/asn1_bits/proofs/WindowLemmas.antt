@@ -10,10 +10,10 @@ use Rattle.std.proofs.lemmas.List.{length-append, length-replicate, length-set, 
 use Rattle.std.proofs.lemmas.Nat.{field_of, mul-mod_first, mod-pow-add, pow-add, pow_pos, shl-shr, shr-shr, shl_below, shl_whole, shr_below, shr_high, or_shifted, be_bytes_8, mod_below}
 use Rattle.std.proofs.lemmas.Nat.Bits.{bit_at_or, bit_at-lt}
 use Rattle.asn1_bits.specs.Bits.{is_odd, digits, bits, ored}
-use Rattle.asn1_bits.specs.DigitLaws.{length-digits, length-bits, get_or-digits, get_or-bits, bits-drop, bits-take}
-use Rattle.asn1_bits.specs.ByteLaws.{digits-mod, bits-bytes}
+use Rattle.asn1_bits.specs.Laws.DigitLaws.{length-digits, length-bits, get_or-digits, get_or-bits, bits-drop, bits-take}
+use Rattle.asn1_bits.specs.Laws.ByteLaws.{digits-mod, bits-bytes}
 use Rattle.asn1_bits.proofs.BufferLemmas.{digits-zero}
-use Rattle.asn1_bits.specs.NumberLaws.{digits-append, digits-low}
+use Rattle.asn1_bits.specs.Laws.NumberLaws.{digits-append, digits-low}
 use Rattle.asn1_bits.proofs.OredLemmas.{ored-none, ored-append, ored-within, length-ored, get_or-ored_inside, get_or-ored_outside}
 
 -- ---- one octet

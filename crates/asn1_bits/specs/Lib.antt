@@ -11,9 +11,4 @@ pub mod Octets
 pub mod Turns
 pub mod View
 -- Laws of these words, for the proofs of this crate and of those above it; no contract cites them.
-pub mod DigitLaws
-pub mod NumberLaws
-pub mod OrderLaws
-pub mod ByteLaws
-pub mod OverwrittenLaws
-pub mod ViewLaws
+pub mod Laws

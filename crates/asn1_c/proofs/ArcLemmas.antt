@@ -9,7 +9,7 @@ use Rattle.std.proofs.lemmas.List.Folds.{list_all-append}
 use Rattle.asn1_oid.specs.declared.contents.ContentsError.{ContentsError}
 use Rattle.asn1_oid.specs.declared.contents.ContentsError.TheVariants.{ArcTooLarge}
 use Rattle.asn1_oid.specs.Reading.{with_front as behind, numbers_from, numbers_of, first_arc, second_arc, largest_first, other_fits, arcs_of_numbers, contents_reading}
-use Rattle.asn1_oid.specs.ReadingLaws.{ends, goes_on}
+use Rattle.asn1_oid.specs.Laws.ReadingLaws.{ends, goes_on}
 use Rattle.asn1_c.specs.Arcs.{more_arcs}
 
 -- the arcs of all numbers

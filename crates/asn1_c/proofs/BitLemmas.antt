@@ -3,10 +3,10 @@ use Rattle.std.proofs.Common.{◌≡◌, ℕ, ◌+◌, ◌-◌, ◌/◌, ◌^◌
 use Rattle.std.specs.Int.{to_be_bytes, w128}
 use Rattle.std.proofs.lemmas.List.{drop_at, take_all}
 use Rattle.asn1_bits.specs.Bits.{digits, bits}
-use Rattle.asn1_bits.specs.ByteLaws.{bits-bytes}
+use Rattle.asn1_bits.specs.Laws.ByteLaws.{bits-bytes}
 use Rattle.asn1_bits.specs.View.{View, list_of}
-use Rattle.asn1_bits.specs.DigitLaws.{length-digits}
-use Rattle.asn1_bits.specs.NumberLaws.{digits-append}
+use Rattle.asn1_bits.specs.Laws.DigitLaws.{length-digits}
+use Rattle.asn1_bits.specs.Laws.NumberLaws.{digits-append}
 
 -- the last digits of more of them
 pub last_digits : (n width : ℕ) → width ≤ 128 → take width (drop (128 - width) (digits n 128)) ≡ digits n width

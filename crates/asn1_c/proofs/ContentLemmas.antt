@@ -3,8 +3,8 @@ use Rattle.std.proofs.Common.{◌≡◌, ⊎_elim, Err, ℕ, ◌+◌, ◌-◌, �
 use Rattle.std.proofs.Math.Seq.{take-append_seam, drop-append_seam}
 use Rattle.std.proofs.lemmas.List.{length-append, take_all}
 use Rattle.asn1_bits.specs.Bits.{bits, digits, number}
-use Rattle.asn1_bits.specs.DigitLaws.{length-bits, length-digits}
-use Rattle.asn1_bits.specs.NumberLaws.{number_of-digits}
+use Rattle.asn1_bits.specs.Laws.DigitLaws.{length-bits, length-digits}
+use Rattle.asn1_bits.specs.Laws.NumberLaws.{number_of-digits}
 use Rattle.asn1_schema.specs.declared.part.Part.{Part}
 use Rattle.asn1_schema.specs.declared.part.Part.TheVariants as part
 use Rattle.asn1_schema.specs.declared.part.Span.{Span}

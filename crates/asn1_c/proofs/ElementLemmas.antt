@@ -3,7 +3,7 @@ use Rattle.std.proofs.Common.{◌≡◌, ⊎_elim, ℕ, ◌+◌, ◌-◌, ◌*�
 use Rattle.std.proofs.Math.Seq.{take-append_seam}
 use Rattle.std.proofs.lemmas.List.{length-append, length-drop, length-take, take_all, append_assoc}
 use Rattle.asn1_bits.specs.Bits.{bits}
-use Rattle.asn1_bits.specs.DigitLaws.{length-bits, length-digits, bits-drop, bits-take}
+use Rattle.asn1_bits.specs.Laws.DigitLaws.{length-bits, length-digits, bits-drop, bits-take}
 use Rattle.asn1_schema.specs.Encodings.{Starts, IsNumber}
 use Rattle.asn1_schema.specs.PiecesOfParts.{bits_at}
 use Rattle.asn1_x690.specs.declared.fault.FaultKind.TheVariants.{Short}

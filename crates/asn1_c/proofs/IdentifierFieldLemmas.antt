@@ -3,7 +3,7 @@ use Rattle.std.proofs.Common.{◌≡◌, ◌≢◌, ℕ, ◌+◌, ◌-◌, ◌*�
 use Rattle.std.proofs.lemmas.Bool.{cases_eq}
 use Rattle.asn1_bits.specs.Bits.{bits}
 use Rattle.asn1_oid.specs.Contents.{IsContents, FitU32}
-use Rattle.asn1_oid.specs.WritingLaws.{contents_octets}
+use Rattle.asn1_oid.specs.Laws.WritingLaws.{contents_octets}
 use Rattle.asn1_values.specs.Fields as plain
 use Rattle.asn1_values.specs.Wrong.{NotIdentifier, ArcOver, Short}
 use Rattle.asn1_c.specs.declared.fields.Field.{Field}

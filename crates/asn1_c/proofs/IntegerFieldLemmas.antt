@@ -8,15 +8,15 @@ use Rattle.std.proofs.lemmas.Int.{of_z-to_z}
 use Rattle.std.proofs.lemmas.List.{take_all, drop-drop, length-drop}
 use Rattle.std.proofs.Math.Seq.{take-add}
 use Rattle.asn1_bits.specs.Bits.{digits, number, bits}
-use Rattle.asn1_bits.specs.ByteLaws.{bits-bytes}
-use Rattle.asn1_bits.specs.DigitLaws.{length-digits, length-bits, bits-drop}
-use Rattle.asn1_bits.specs.NumberLaws.{digits_of-number}
+use Rattle.asn1_bits.specs.Laws.ByteLaws.{bits-bytes}
+use Rattle.asn1_bits.specs.Laws.DigitLaws.{length-digits, length-bits, bits-drop}
+use Rattle.asn1_bits.specs.Laws.NumberLaws.{digits_of-number}
 use Rattle.asn1_number.specs.Octets.{IsOctets, IsShortest, signed}
 use Rattle.asn1_number.specs.Order.{NineBitsDiffer}
-use Rattle.asn1_number.specs.OctetLaws.{RepeatsSign, shortest_from_nine_bits, nine_bits_from_shortest, nine_bits_by_places, octets-drop, shortest_once}
+use Rattle.asn1_number.specs.Laws.OctetLaws.{RepeatsSign, shortest_from_nine_bits, nine_bits_from_shortest, nine_bits_by_places, octets-drop, shortest_once}
 use Rattle.asn1_number.specs.Readings.{IsInRange, kind_i128}
-use Rattle.asn1_number.specs.ReadingLaws.{past_sixteen}
-use Rattle.asn1_number.specs.WidthLaws.{octets_of_bytes, sixteen_fit}
+use Rattle.asn1_number.specs.Laws.ReadingLaws.{past_sixteen}
+use Rattle.asn1_number.specs.Laws.WidthLaws.{octets_of_bytes, sixteen_fit}
 use Rattle.asn1_values.specs.Fields as plain
 use Rattle.asn1_values.specs.Wrong.{NotInteger, Short, NoLength, IsCount, first_octet}
 use Rattle.asn1_values.specs.IntegerOctets.{IsNoInteger}

@@ -3,7 +3,7 @@ use Rattle.std.proofs.Common.{ℕ, ◌<◌, ◌≤◌, inl, inr, ℤ, List, [], 
 use Rattle.std.proofs.lemmas.Bool.{lt-ltb, cases_lt}
 use Rattle.asn1_number.specs.Octets.{IsShortest}
 use Rattle.asn1_number.specs.Readings.{IsInRange, kind_i64, signed_reading}
-use Rattle.asn1_number.specs.ReadingLaws.{signed_law}
+use Rattle.asn1_number.specs.Laws.ReadingLaws.{signed_law}
 
 -- shortest octets of a number of 64 bits are at most eight
 pub no_more_than_eight : (n : ℤ) (o : List ℕ) → IsShortest n o → 8 < length o → IsInRange kind_i64 n → ⊥

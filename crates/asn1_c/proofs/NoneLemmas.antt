@@ -3,16 +3,16 @@ use Rattle.std.proofs.Common.{◌≡◌, ℕ, ◌+◌, ◌*◌, ◌^◌, ◌≤�
 use Rattle.std.proofs.lemmas.Bool.{le-leb, lt-leb}
 use Rattle.std.proofs.lemmas.List.{length-append, length-take, take_at, drop_at, take-take, drop-take}
 use Rattle.asn1_bits.specs.Bits.{bits, digits, number}
-use Rattle.asn1_bits.specs.DigitLaws.{length-digits, length-bits}
-use Rattle.asn1_bits.specs.NumberLaws.{number_of-digits, same_octets}
+use Rattle.asn1_bits.specs.Laws.DigitLaws.{length-digits, length-bits}
+use Rattle.asn1_bits.specs.Laws.NumberLaws.{number_of-digits, same_octets}
 use Rattle.asn1_number.specs.Octets.{IsShortest}
 use Rattle.asn1_alphabets.specs.Alphabet.{Alphabet}
 use Rattle.asn1_oid.specs.Contents.{IsContents, FitU32}
-use Rattle.asn1_oid.specs.WritingLaws.{contents_only, some_contents, contents_octets}
-use Rattle.asn1_oid.specs.ReadingLaws.{one_list_of_arcs}
+use Rattle.asn1_oid.specs.Laws.WritingLaws.{contents_only, some_contents, contents_octets}
+use Rattle.asn1_oid.specs.Laws.ReadingLaws.{one_list_of_arcs}
 use Rattle.asn1_values.specs.Fields as plain
 use Rattle.asn1_values.specs.Fields.{IsOfShape, IsSpelledBy}
-use Rattle.asn1_values.specs.SpellingLaws.{same_shortest}
+use Rattle.asn1_values.specs.Laws.SpellingLaws.{same_shortest}
 use Rattle.asn1_values.specs.Wrong.{Fault, NumberWidth, NotInteger, Short, NoCharacter, NoLength, NotIdentifier, ArcOver, WidthOver, PastWidth, NotInAlphabet, PastLength, TooFewArcs, IsCount, first_octet, Misfit, IsMisfit, IsReason}
 use Rattle.asn1_c.specs.declared.fields.Field.{Field}
 use Rattle.asn1_c.specs.declared.fields.Refusal.{Refusal}

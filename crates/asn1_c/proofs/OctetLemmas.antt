@@ -6,8 +6,8 @@ use Rattle.std.proofs.Math.Seq.{take-add}
 use Rattle.std.proofs.Math.ListN.{set}
 use Rattle.std.proofs.lemmas.List.Elements.{All-nil, All-cons, All-head, All-tail}
 use Rattle.asn1_bits.specs.Bits.{digits, number, bits}
-use Rattle.asn1_bits.specs.DigitLaws.{length-bits}
-use Rattle.asn1_bits.specs.NumberLaws.{digits_of-number, number-below, same_octets}
+use Rattle.asn1_bits.specs.Laws.DigitLaws.{length-bits}
+use Rattle.asn1_bits.specs.Laws.NumberLaws.{digits_of-number, number-below, same_octets}
 use Rattle.asn1_number.specs.Octets.{IsOctets}
 use Rattle.asn1_values.specs.Fields as plain
 use Rattle.asn1_values.specs.Fields.{IsSpelledBy}

@@ -5,11 +5,11 @@ use Rattle.std.specs.Int.{cast_signed, w128}
 use Rattle.std.proofs.lemmas.Bool.{le-leb, lt-leb}
 use Rattle.std.proofs.lemmas.List.{length-append}
 use Rattle.asn1_bits.specs.Bits.{bits, digits, overwritten}
-use Rattle.asn1_bits.specs.DigitLaws.{length-digits}
-use Rattle.asn1_bits.specs.OverwrittenLaws.{overwritten-append}
+use Rattle.asn1_bits.specs.Laws.DigitLaws.{length-digits}
+use Rattle.asn1_bits.specs.Laws.OverwrittenLaws.{overwritten-append}
 use Rattle.asn1_bits.specs.View.{View, list_of}
 use Rattle.asn1_number.specs.Octets.{IsShortest}
-use Rattle.asn1_number.specs.LawsHold.{one_shortest_list}
+use Rattle.asn1_number.specs.Laws.LawsHold.{one_shortest_list}
 use Rattle.asn1_alphabets.specs.Alphabet.{Alphabet, IsCode}
 use Rattle.asn1_values.specs.Fields as plain
 use Rattle.asn1_values.specs.Fields.{IsSpelledBy}

@@ -6,7 +6,7 @@ use Rattle.std.proofs.lemmas.List.{get_or_default}
 use Rattle.std.proofs.lemmas.Grind.{flat_map-append}
 use Rattle.std.proofs.lemmas.Bool.{cases_lt}
 use Rattle.asn1_characters.specs.Sets.{base_set, has_character}
-use Rattle.asn1_characters.specs.SetLaws.{below_limit}
+use Rattle.asn1_characters.specs.Laws.SetLaws.{below_limit}
 use Rattle.asn1_characters.specs.declared.character_set.CharacterSetName.{CharacterSetName}
 use Rattle.asn1_characters.specs.declared.character_set.CharacterSetName.TheVariants.{Bmp, General, Graphic, IA5, Numeric, Printable, Teletex, Visible}
 use Rattle.asn1_strings.specs.Strings.{character_octets}

@@ -4,9 +4,9 @@ use Rattle.std.proofs.lemmas.Bool.{lt-ltb, le-leb, lt-leb, cases_lt}
 use Rattle.std.proofs.lemmas.Bool.Decides.{nat_tests}
 use Rattle.std.proofs.lemmas.Int.{ints}
 use Rattle.asn1_number.specs.Octets.{IsShortest}
-use Rattle.asn1_number.specs.OctetLaws.{nine_bits_from_shortest}
+use Rattle.asn1_number.specs.Laws.OctetLaws.{nine_bits_from_shortest}
 use Rattle.asn1_number.specs.Readings.{IsInRange, UnsignedOf, SignedOf, kind_u64, signed_reading, counted_length}
-use Rattle.asn1_number.specs.ReadingLaws.{unsigned_law, past_sixteen, past_u128}
+use Rattle.asn1_number.specs.Laws.ReadingLaws.{unsigned_law, past_sixteen, past_u128}
 
 -- more than sixteen shortest octets encode no number of 128 bits in two's complement
 pub past_i128 : (n : ℤ) (o : List ℕ) → IsShortest n o → 16 < length o → IsInRange (SignedOf 16) n → ⊥

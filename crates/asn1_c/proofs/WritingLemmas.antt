@@ -4,7 +4,7 @@ use Rattle.std.specs.Prelude.{slice_get, Option, Some, None}
 use Rattle.std.proofs.lemmas.List.{length-append, take_more, take_all}
 use Rattle.std.proofs.lemmas.Option.{slice_get-get_or, get_or_from_slice_get}
 use Rattle.asn1_bits.specs.Bits.{overwritten}
-use Rattle.asn1_bits.specs.OverwrittenLaws.{overwritten-append}
+use Rattle.asn1_bits.specs.Laws.OverwrittenLaws.{overwritten-append}
 use Rattle.asn1_values.specs.Fields as plain
 use Rattle.asn1_values.specs.Refusals.{IsPast}
 use Rattle.asn1_c.specs.declared.alphabets.Alphabet.{Alphabet}

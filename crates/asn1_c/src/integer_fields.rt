@@ -4,7 +4,7 @@ ghost use Rattle.std.specs.Prelude.{◌≡◌, ◌+◌, ◌-◌, ◌*◌, ◌^�
 ghost use Rattle.std.specs.Int.{cast_signed, w128};
 ghost use Rattle.asn1_bits.specs.Bits.{bits, digits};
 ghost use Rattle.asn1_number.specs.Octets.{IsShortest, signed};
-ghost use Rattle.asn1_number.specs.OctetLaws.{RepeatsSign};
+ghost use Rattle.asn1_number.specs.Laws.OctetLaws.{RepeatsSign};
 ghost use Rattle.asn1_values.specs.Fields as plain;
 ghost use Rattle.asn1_c.specs.Fields.{IsSpelledAt, NamesReason, TellsNone, signed_of_words};
 ghost use Rattle.asn1_c.specs.Octets.{octets_at};

@@ -5,8 +5,8 @@ use Rattle.std.proofs.lemmas.Bool.Decides.{nat_tests}
 use Rattle.std.proofs.lemmas.Option.{slice_get-get_or, slice_get_past}
 use Rattle.std.proofs.lemmas.List.FromFn.{length-range_with_len, get_or-range_with_len}
 use Rattle.asn1_characters.specs.Sets.{ranges_of, base_set, characters_between, has_character}
-use Rattle.asn1_characters.specs.SetLaws.{has_in_base}
-use Rattle.asn1_characters.specs.TableLaws.{counted, length-base_set}
+use Rattle.asn1_characters.specs.Laws.SetLaws.{has_in_base}
+use Rattle.asn1_characters.specs.Laws.TableLaws.{counted, length-base_set}
 use Rattle.asn1_characters.specs.declared.character_set.CharacterSetName.{CharacterSetName}
 use Rattle.asn1_characters.specs.declared.character_set.CharacterSetName.TheVariants.{Numeric}
 

@@ -3,7 +3,7 @@ use Rattle.std.proofs.Common.{◌≡◌, ℕ, ◌^◌, false, leb, refl, ap, ◌
 use Rattle.std.specs.Prelude.{◌≢◌}
 use Rattle.asn1_characters.specs.Sets.{ranges_of, base_width, base_indexed}
 use Rattle.asn1_characters.specs.Widths.{ceil_log2, least_from}
-use Rattle.asn1_characters.specs.TableLaws.{counted, length-base_set, topmost, largest-base_set}
+use Rattle.asn1_characters.specs.Laws.TableLaws.{counted, length-base_set, topmost, largest-base_set}
 use Rattle.asn1_characters.specs.declared.character_set.CharacterSetName.{CharacterSetName}
 use Rattle.asn1_characters.specs.declared.character_set.CharacterSetName.TheVariants.{Bmp, General, Graphic, IA5, Numeric, Printable, Teletex, Visible}
 

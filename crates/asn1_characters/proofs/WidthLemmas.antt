@@ -3,7 +3,7 @@ use Rattle.std.proofs.Common.{◌≡◌, ℕ, suc, ◌-◌, ◌<◌, ◌≤◌, 
 use Rattle.std.specs.Int.Count.{count_leading_zeros}
 use Rattle.std.proofs.lemmas.Nat.{leading_top}
 use Rattle.asn1_characters.specs.Widths.{IsLeastWidth}
-use Rattle.asn1_characters.specs.WidthLaws.{too_few}
+use Rattle.asn1_characters.specs.Laws.WidthLaws.{too_few}
 
 -- the width of some things is that of the digits of one less
 pub digits_are_least : (n : ℕ) → 1 < n → n ≤ 2 ^ 32 → IsLeastWidth n (64 - count_leading_zeros 64 (n - 1))

@@ -10,7 +10,7 @@ use Rattle.std.specs.Int.{bit_at}
 use Rattle.std.proofs.Common.{eqb, ◌||◌, ◌/◌, ◌%◌, ◌^◌, ◌*◌, length, get_or, bit_or}
 use Rattle.std.proofs.lemmas.Nat.Bits.{bit_at_or, bit_at-lt, bit_at-pow_same, bit_at-pow_other}
 use Rattle.asn1_characters.specs.Sets.{ranges_of, base_set, has_character}
-use Rattle.asn1_characters.specs.SetLaws.{lies_in, has_in_base, below_limit, all_below}
+use Rattle.asn1_characters.specs.Laws.SetLaws.{lies_in, has_in_base, below_limit, all_below}
 use Rattle.asn1_characters.specs.Words.{in_words}
 use Rattle.asn1_characters.specs.declared.character_set.CharacterSetName.{CharacterSetName}
 use Rattle.asn1_characters.specs.declared.character_set.CharacterSetName.TheVariants.{Bmp, General, Graphic, IA5, Numeric, Printable, Teletex, Visible}

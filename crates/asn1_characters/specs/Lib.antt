@@ -5,6 +5,4 @@ pub mod Texts
 pub mod Errors
 pub mod Words
 -- Laws of these words, for the proofs of this crate and of those above it; no contract cites them.
-pub mod WidthLaws
-pub mod SetLaws
-pub mod TableLaws
+pub mod Laws

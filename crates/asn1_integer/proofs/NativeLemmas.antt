@@ -4,8 +4,8 @@ use Rattle.std.specs.Int.{bytes_high_first}
 use mir.Val.{SFits}
 use Rattle.asn1_number.specs.Octets as S
 use Rattle.asn1_number.specs.Readings.{FitsI128}
-use Rattle.asn1_number.specs.OctetLaws.{unsigned-cons, signed_low}
-use Rattle.asn1_number.specs.WidthLaws.{unsigned-bytes, fits_by_parts}
+use Rattle.asn1_number.specs.Laws.OctetLaws.{unsigned-cons, signed_low}
+use Rattle.asn1_number.specs.Laws.WidthLaws.{unsigned-bytes, fits_by_parts}
 use Rattle.asn1_number.specs.declared.error.IntegerError.{IntegerError}
 use Rattle.std.proofs.Math.Nat.{mod-eq_of_lt, pow-le-pow_right, one-le-pow, pow-suc, suc-mul}
 use Rattle.std.proofs.lemmas.Nat.{mod-mul-add, pow-add}

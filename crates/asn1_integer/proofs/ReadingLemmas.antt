@@ -8,8 +8,8 @@ use Rattle.asn1_number.specs.declared.error.IntegerError.TheVariants.{Unexpected
 use Rattle.asn1_number.specs.declared.error.IntegerError.{IntegerError}
 use Rattle.asn1_number.specs.Octets.{IsOctets, unsigned, signed}
 use Rattle.asn1_number.specs.Readings.{IntegerKind, SignedOf, UnsignedOf, Unbounded, IsInRange, signed_reading, unsigned_reading, counted_length, FitsI128, Answers}
-use Rattle.asn1_number.specs.OctetLaws.{signed_low, signed_range, unsigned-zero_first, unsigned_below}
-use Rattle.asn1_number.specs.ReadingLaws.{power_of_bits, half_of_bits, signed_is_read, unsigned_is_read}
+use Rattle.asn1_number.specs.Laws.OctetLaws.{signed_low, signed_range, unsigned-zero_first, unsigned_below}
+use Rattle.asn1_number.specs.Laws.ReadingLaws.{power_of_bits, half_of_bits, signed_is_read, unsigned_is_read}
 
 pub reading_empty : (kind : IntegerKind) (o : List ℕ) → length o ≡ 0 → signed_reading kind o ≡ Err UnexpectedEmptyInput
 unfolding signed_reading

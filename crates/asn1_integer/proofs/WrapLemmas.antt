@@ -8,10 +8,10 @@ use lib.Dec.{ltb, leb}
 use Rattle.asn1_number.specs.declared.error.IntegerError.{IntegerError}
 use Rattle.asn1_number.specs.declared.error.IntegerError.TheVariants.{UnexpectedEmptyInput, Overflow, TypeConversionFailed, Memory}
 use Rattle.asn1_number.specs.Octets.{signed, IsShortest, IsShortestUnsigned}
-use Rattle.asn1_integer.specs.NativeLaws.{native_reads_shortest}
+use Rattle.asn1_integer.specs.Laws.NativeLaws.{native_reads_shortest}
 use borrow.Author.Differences.{up, down, le_out, neg_is, sum_is_lem, product_is, same_in, at_most_in, below_in}
 use Rattle.asn1_number.specs.Readings.{IntegerKind, IsInRange, SignedOf, UnsignedOf, Unbounded, signed_reading, counted_length}
-use Rattle.asn1_number.specs.OctetLaws.{one_part}
+use Rattle.asn1_number.specs.Laws.OctetLaws.{one_part}
 use Rattle.asn1_integer.specs.NativeBits.{native_kind, wrapped_bits, IsNativeSize, ReadsBits}
 use Rattle.asn1_integer.specs.Wrapping.{IsWrapped, IsResidue, DifferByMultiple}
 use Rattle.asn1_integer.specs.Calls.{WrapsSum, IsInReach, SpellsUnsigned}

@@ -1,7 +1,7 @@
 //! `Integer` as an integer type: it is read from octets of any number, and its sums go to `i128`.
 ghost use Rattle.std.proofs.Common.{rules};
 ghost use Rattle.asn1_number.specs.Readings.{Unbounded};
-ghost use Rattle.asn1_integer.specs.NativeLaws.{unbounded_reads_shortest};
+ghost use Rattle.asn1_integer.specs.Laws.NativeLaws.{unbounded_reads_shortest};
 
 use crate::integer_type::IntegerType;
 use asn1_number::{Integer, IntegerBytes, IntegerError};

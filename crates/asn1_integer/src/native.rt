@@ -3,8 +3,8 @@ ghost use Rattle.std.specs.Prelude.{◌≡◌, ℕ, ◌*◌, ℤ, Bool, pos, ◌
 ghost use Rattle.std.specs.Int.{cast_unsigned, w128};
 ghost use Rattle.asn1_number.specs.Readings.{IsInRange};
 ghost use Rattle.asn1_integer.specs.NativeBits.{native_kind, wrapped_bits, IsNativeSize};
-ghost use Rattle.asn1_integer.specs.NativeLaws.{native_reads_shortest, native_width};
-ghost use Rattle.asn1_integer.specs.NativeLaws.{octets_of_width};
+ghost use Rattle.asn1_integer.specs.Laws.NativeLaws.{native_reads_shortest, native_width};
+ghost use Rattle.asn1_integer.specs.Laws.NativeLaws.{octets_of_width};
 
 use crate::integer_type::IntegerType;
 use crate::readings::{

@@ -11,10 +11,10 @@ use lib.Signed.{mag}
 use mir.Val.{SFits, of_z, to_z, sel}
 use Rattle.asn1_number.specs.Octets.{unsigned}
 use Rattle.asn1_number.specs.Shortest.{octets_past_first, residue_at, shortest_octets}
-use Rattle.asn1_number.specs.OctetLaws.{unsigned_below, unsigned_once, power_step}
-use Rattle.asn1_number.specs.WidthLaws.{byte_at_is, length-bytes, octets_of_bytes, unsigned-bytes, unsigned-bytes_and_rest}
-use Rattle.asn1_number.specs.ReadingLaws.{half_of_bits}
-use Rattle.asn1_number.specs.ShortestLaws.{past_first_only, past_first_enough, past_first_few}
+use Rattle.asn1_number.specs.Laws.OctetLaws.{unsigned_below, unsigned_once, power_step}
+use Rattle.asn1_number.specs.Laws.WidthLaws.{byte_at_is, length-bytes, octets_of_bytes, unsigned-bytes, unsigned-bytes_and_rest}
+use Rattle.asn1_number.specs.Laws.ReadingLaws.{half_of_bits}
+use Rattle.asn1_number.specs.Laws.ShortestLaws.{past_first_only, past_first_enough, past_first_few}
 
 -- ---- the bytes of a word
 

@@ -16,8 +16,8 @@ use Rattle.std.specs.declared.cmp.Ordering.TheVariants.{Less, Equal, Greater}
 use Rattle.std.specs.Int.{from_be_bytes, cast_signed, cast_unsigned, w64, w128}
 use Rattle.std.specs.Ordering.{MatchOrdering, int_cmp, nat_cmp}
 use Rattle.asn1_number.specs.Octets.{IsOctets, unsigned, signed}
-use Rattle.asn1_number.specs.OctetLaws.{unsigned-cons, unsigned_nil, low_parts, high_parts, signed_range, octets-drop}
-use Rattle.asn1_number.specs.WidthLaws.{unsigned-bytes, signed-bytes, signed_as_bits, signed_more, octet_at, octets-take, fits_by_parts}
+use Rattle.asn1_number.specs.Laws.OctetLaws.{unsigned-cons, unsigned_nil, low_parts, high_parts, signed_range, octets-drop}
+use Rattle.asn1_number.specs.Laws.WidthLaws.{unsigned-bytes, signed-bytes, signed_as_bits, signed_more, octet_at, octets-take, fits_by_parts}
 
 -- a word's bytes encode it
 pub word_value : (o : List ℕ) (n : ℕ) → length o ≡ 8 → ((i : ℕ) → get_or o i 0 < 256) → n ≡ from_be_bytes w64 o

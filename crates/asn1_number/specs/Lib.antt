@@ -6,14 +6,9 @@ pub mod Readings
 pub mod Conversions
 pub mod Constrained
 pub mod Sums
-pub mod Laws
+pub mod StatedLaws
 -- How values lie in memory; no public contract cites these.
 pub mod Forms
 pub mod Storage
 -- Laws of these words, for the proofs of this crate and of those above it; no contract cites them.
-pub mod OctetLaws
-pub mod OctetOrderLaws
-pub mod WidthLaws
-pub mod ReadingLaws
-pub mod ShortestLaws
-pub mod LawsHold
+pub mod Laws

@@ -1,6 +1,6 @@
 //! The laws of shortest octets.
-ghost use Rattle.asn1_number.specs.Laws.{EachNumberHasOneShortestList, ComputedAreShortest};
-ghost use Rattle.asn1_number.specs.Laws.{ShortestByNineBits, ShortestKeepOrder, ShortestAreReadBack};
+ghost use Rattle.asn1_number.specs.StatedLaws.{EachNumberHasOneShortestList, ComputedAreShortest};
+ghost use Rattle.asn1_number.specs.StatedLaws.{ShortestByNineBits, ShortestKeepOrder, ShortestAreReadBack};
 
 /// Proves the laws of shortest octets at every length (X.690 8.3.2), for callers that look at
 /// octets themselves. Its contract is the laws; it does nothing when it runs.

@@ -8,7 +8,7 @@ use Rattle.std.proofs.lemmas.Nat.{pow-add}
 use Rattle.std.proofs.lemmas.Grind.{flat_map-append}
 use Rattle.std.proofs.Math.Nat.{div-div-eq-div-mul, pow-succ'}
 use Rattle.asn1_oid.specs.Writing.{last_octets, low_octets, HasDigits, digit_count, subidentifier_octets, word_left, both_left}
-use Rattle.asn1_oid.specs.WritingLaws.{digits_of, same_digits}
+use Rattle.asn1_oid.specs.Laws.WritingLaws.{digits_of, same_digits}
 
 -- ---- a word
 

@@ -12,7 +12,7 @@ use Rattle.std.proofs.lemmas.List.{length-set, length-append, drop_more, drop_al
 use Rattle.std.proofs.lemmas.List.Elements.{All-nil, All-cons, All-append, All-head, All-tail}
 use Rattle.asn1_oid.specs.Arcs.{IsValidArcs}
 use Rattle.asn1_oid.specs.DottedText.{IsDottedText}
-use Rattle.asn1_oid.specs.DottedLaws.{dotted_of_split, parts_are, same_arcs}
+use Rattle.asn1_oid.specs.Laws.DottedLaws.{dotted_of_split, parts_are, same_arcs}
 
 -- the parts of what is left, and how many octets it may have
 abbrev pub parts_left : Option (Bor (List ℕ)) → List (List ℕ)

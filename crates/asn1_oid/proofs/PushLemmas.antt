@@ -4,7 +4,7 @@ use Rattle.std.specs.List.{flat_map}
 use Rattle.std.proofs.Math.Seq.{take-length}
 use Rattle.std.proofs.lemmas.List.{length-append, take_more, flat_map_more}
 use Rattle.asn1_oid.specs.Writing.{last_octets, low_octets, HasDigits, digit_count, subidentifier_octets, word_left, both_left}
-use Rattle.asn1_oid.specs.WritingLaws.{digits_of, same_digits, length-last_octets, last_octet, octet_before}
+use Rattle.asn1_oid.specs.Laws.WritingLaws.{digits_of, same_digits, length-last_octets, last_octet, octet_before}
 use Rattle.asn1_oid.proofs.WritingLemmas.{length-both_left}
 
 -- ---- the octets of a subidentifier

@@ -5,7 +5,7 @@ use Rattle.asn1_oid.specs.Contents.{IsContents, FitU32}
 use Rattle.asn1_oid.specs.declared.contents.ContentsError.{ContentsError}
 use Rattle.asn1_oid.specs.declared.contents.ContentsError.TheVariants.{Malformed, ArcTooLarge, Memory}
 use Rattle.asn1_oid.specs.Reading.{contents_reading}
-use Rattle.asn1_oid.specs.ReadingLaws.{contents_read, large_read, none_read, arcs_from_reading, large_from_reading, none_from_reading, no_want_of_memory}
+use Rattle.asn1_oid.specs.Laws.ReadingLaws.{contents_read, large_read, none_read, arcs_from_reading, large_from_reading, none_from_reading, no_want_of_memory}
 
 abbrev Reading : Type 0
 Reading = Result (List ℕ) ContentsError

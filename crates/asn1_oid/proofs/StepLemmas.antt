@@ -7,7 +7,7 @@ use Rattle.std.proofs.lemmas.List.{append-nil, drop_more, drop_all}
 use Rattle.std.proofs.lemmas.List.Folds.{list_all-append}
 use Rattle.asn1_oid.specs.declared.contents.ContentsError.TheVariants.{Malformed, ArcTooLarge}
 use Rattle.asn1_oid.specs.Reading.{with_front, numbers_from, numbers_of, first_arc, second_arc, largest_first, other_fits, contents_reading, Stands}
-use Rattle.asn1_oid.specs.ReadingLaws.{ends, goes_on}
+use Rattle.asn1_oid.specs.Laws.ReadingLaws.{ends, goes_on}
 
 -- ---- one octet
 

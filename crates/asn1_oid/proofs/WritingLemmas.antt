@@ -5,7 +5,7 @@ use Rattle.std.proofs.lemmas.List.{length-append, take_more, flat_map_more}
 use Rattle.asn1_oid.specs.Arcs.{IsValidArcs}
 use Rattle.asn1_oid.specs.Contents.{AreSubidentifiers, subidentifiers, IsContents}
 use Rattle.asn1_oid.specs.Writing.{last_octets, low_octets, HasDigits, digit_count, subidentifier_octets, octets_left, word_left, both_left}
-use Rattle.asn1_oid.specs.WritingLaws.{digits_of, same_digits, length-last_octets, last_octet, octet_before, left_are}
+use Rattle.asn1_oid.specs.Laws.WritingLaws.{digits_of, same_digits, length-last_octets, last_octet, octet_before, left_are}
 
 -- ---- what is left, and how many octets there are
 

@@ -7,6 +7,4 @@ pub mod Oid
 pub mod Reading
 pub mod Writing
 -- laws, with their proofs, for the crates above
-pub mod ReadingLaws
-pub mod WritingLaws
-pub mod DottedLaws
+pub mod Laws

@@ -4,9 +4,9 @@ use Rattle.std.specs.List.{All, flat_map}
 use Rattle.std.specs.Int.{w16, to_be_bytes}
 use Rattle.std.proofs.lemmas.List.{length-append}
 use Rattle.asn1_characters.specs.Sets.{base_set, has_character}
-use Rattle.asn1_characters.specs.SetLaws.{below_limit}
+use Rattle.asn1_characters.specs.Laws.SetLaws.{below_limit}
 use Rattle.asn1_strings.specs.Pieces.{pieces, unsigned}
-use Rattle.asn1_strings.specs.PieceLaws.{pieces_cons}
+use Rattle.asn1_strings.specs.Laws.PieceLaws.{pieces_cons}
 use Rattle.asn1_strings.specs.Strings.{string_of_octets}
 use Rattle.asn1_strings.proofs.StringLemmas.{string_of_right}
 use Rattle.asn1_characters.specs.declared.character_set.CharacterSetName.TheVariants.{Bmp}

@@ -7,8 +7,8 @@ use Rattle.std.proofs.Math.Nat.{div-mul-le_self, mul-le-mul_right}
 use Rattle.std.proofs.lemmas.Bool.{cases_lt}
 use Rattle.std.proofs.lemmas.List.{length-map, get_or-map, get_or_append_left, get_or_push, ext_get_or, take_at, drop_at, drop-drop, drop-take, take-take}
 use Rattle.asn1_bits.specs.Bits.{digits, number}
-use Rattle.asn1_bits.specs.DigitLaws.{length-digits}
-use Rattle.asn1_bits.specs.NumberLaws.{digits-append, number-digits}
+use Rattle.asn1_bits.specs.Laws.DigitLaws.{length-digits}
+use Rattle.asn1_bits.specs.Laws.NumberLaws.{digits-append, number-digits}
 use Rattle.asn1_characters.specs.Sets.{base_set, has_character}
 use Rattle.asn1_characters.specs.Errors.{own_error}
 use Rattle.asn1_strings.specs.Pieces.{piece, pieces}

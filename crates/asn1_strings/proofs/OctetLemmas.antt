@@ -10,9 +10,9 @@ use Rattle.std.specs.Simd.{first_chunks}
 use Rattle.std.proofs.lemmas.Bool.Decides.{nat_tests}
 use Rattle.std.proofs.lemmas.List.Sums.{AllPass-from_list_all, list_all-from_AllPass}
 use Rattle.asn1_characters.specs.Sets.{ranges_of, base_set, has_character, largest}
-use Rattle.asn1_characters.specs.SetLaws.{has_in_base, no_larger, largest_within}
+use Rattle.asn1_characters.specs.Laws.SetLaws.{has_in_base, no_larger, largest_within}
 use Rattle.asn1_strings.specs.Pieces.{pieces, unsigned}
-use Rattle.asn1_strings.specs.PieceLaws.{pieces_cons}
+use Rattle.asn1_strings.specs.Laws.PieceLaws.{pieces_cons}
 use Rattle.asn1_characters.specs.declared.character_set.CharacterSetName.{CharacterSetName}
 
 one : (x : ℕ) → unsigned (x ∷ []) ≡ x

@@ -7,7 +7,7 @@ use Rattle.std.proofs.lemmas.Nat.{pow-add}
 use Rattle.std.proofs.lemmas.List.{length-map, get_or-map}
 use Rattle.std.proofs.lemmas.List.FromFn.{get_or-map-range_with_len}
 use Rattle.asn1_strings.specs.Pieces.{piece, pieces, unsigned}
-use Rattle.asn1_strings.specs.PieceLaws.{length-pieces}
+use Rattle.asn1_strings.specs.Laws.PieceLaws.{length-pieces}
 
 -- the number of octets, gathered from the first on
 abbrev pub gathered : List ℕ → ℕ

@@ -13,7 +13,4 @@ pub mod Maps
 pub mod KeyNumbers
 pub mod KeyWalk
 -- Laws of these words, for the proofs of this crate and of those above it; no contract cites them.
-pub use Rattle.asn1_characters.specs.WidthLaws
-pub use Rattle.asn1_characters.specs.SetLaws
-pub use Rattle.asn1_characters.specs.TableLaws
-pub mod PieceLaws
+pub mod Laws

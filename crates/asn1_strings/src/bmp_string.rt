@@ -3,7 +3,7 @@ ghost use Rattle.std.specs.Prelude.{◌≡◌, ◌≢◌, ◌*◌, [], length, O
 ghost use Rattle.std.specs.List.{flat_map};
 ghost use Rattle.std.specs.Int.{w16, to_be_bytes};
 ghost use Rattle.asn1_strings.specs.Strings.{character_octets, string_of_octets};
-ghost use Rattle.asn1_characters.specs.SetLaws.{below_limit};
+ghost use Rattle.asn1_characters.specs.Laws.SetLaws.{below_limit};
 ghost use Rattle.asn1_characters.specs.declared.character_set.CharacterSetName.TheVariants.{Bmp as name};
 
 use crate::chars::Chars;

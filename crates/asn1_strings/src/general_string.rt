@@ -1,6 +1,6 @@
 //! `GeneralString`.
 ghost use Rattle.std.specs.Prelude.{refl};
-ghost use Rattle.asn1_characters.specs.SetLaws.{below_limit};
+ghost use Rattle.asn1_characters.specs.Laws.SetLaws.{below_limit};
 ghost use Rattle.asn1_characters.specs.declared.character_set.CharacterSetName.TheVariants.{General as name};
 
 use crate::octet_kinds::{HasAsBytes, HasFromBytes};

@@ -1,6 +1,6 @@
 //! `TeletexString`.
 ghost use Rattle.std.specs.Prelude.{◌≡◌, ◌≢◌, [], IfOk, OnErr, refl};
-ghost use Rattle.asn1_characters.specs.SetLaws.{below_limit};
+ghost use Rattle.asn1_characters.specs.Laws.SetLaws.{below_limit};
 ghost use Rattle.asn1_characters.specs.declared.character_set.CharacterSetName.TheVariants.{Teletex as name};
 
 use crate::octet_kinds::HasFromBytes;

@@ -1,6 +1,6 @@
 //! `VisibleString`.
 ghost use Rattle.std.specs.Prelude.{refl};
-ghost use Rattle.asn1_characters.specs.SetLaws.{below_limit};
+ghost use Rattle.asn1_characters.specs.Laws.SetLaws.{below_limit};
 ghost use Rattle.asn1_characters.specs.declared.character_set.CharacterSetName.TheVariants.{Visible as name};
 
 use crate::octet_kinds::{AsText, IsIso646};

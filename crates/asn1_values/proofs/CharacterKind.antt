@@ -5,8 +5,8 @@ use Rattle.std.proofs.lemmas.Bool.{le-ltb}
 use Rattle.std.proofs.lemmas.List.{length-append, take_at, take-take}
 use Rattle.std.proofs.lemmas.Option.{cond_some}
 use Rattle.asn1_bits.specs.Bits.{digits, number}
-use Rattle.asn1_bits.specs.DigitLaws.{length-digits}
-use Rattle.asn1_bits.specs.NumberLaws.{number_of-digits, digits_of-number}
+use Rattle.asn1_bits.specs.Laws.DigitLaws.{length-digits}
+use Rattle.asn1_bits.specs.Laws.NumberLaws.{number_of-digits, digits_of-number}
 use Rattle.asn1_strings.specs.Sets.{has_character}
 use Rattle.asn1_alphabets.specs.Alphabet.{Alphabet, IsCode}
 use Rattle.asn1_values.specs.Fields.{Field, IsSpelledBy, IsOfShape, Character, OfCharacter}

@@ -5,8 +5,8 @@ use Rattle.std.proofs.lemmas.List.{length-append, take_at, drop_at, length-take,
 use Rattle.std.proofs.lemmas.Bool.{ltb-true, ltb-false, le-ltb, eqb-false, ne_eqb}
 use Rattle.asn1_bits.specs.Bits.{digits, number, bits}
 use Rattle.asn1_bits.specs.View.{View, part}
-use Rattle.asn1_bits.specs.DigitLaws.{length-digits, length-bits}
-use Rattle.asn1_bits.specs.NumberLaws.{number_of-digits, digits_of-number}
+use Rattle.asn1_bits.specs.Laws.DigitLaws.{length-digits, length-bits}
+use Rattle.asn1_bits.specs.Laws.NumberLaws.{number_of-digits, digits_of-number}
 use Rattle.asn1_bits.specs.declared.bit_reader.BitReader.{BitReader}
 use Rattle.asn1_values.specs.declared.bit_fields.error.ReadError.{ReadError}
 use Rattle.asn1_values.specs.Steps.{past, Examines}
@@ -15,7 +15,7 @@ use Rattle.asn1_values.specs.Wrong.{Fault, NumberWidth, NotInteger, Short, NoCha
 use Rattle.asn1_values.specs.Walk.{as_counted, counted, integer_at, counted_at, field_at}
 use Rattle.asn1_values.proofs.ExactKinds.{IsExact, Takes, Read, failed, tested, chosen, err_is, ok_is, err_is_no_ok, ok_is_no_err}
 use Rattle.asn1_values.proofs.IntegerKind.{integer_exact}
-use Rattle.asn1_values.specs.SpellingLaws.{same_shortest}
+use Rattle.asn1_values.specs.Laws.SpellingLaws.{same_shortest}
 
 -- ---- the octet that counts
 

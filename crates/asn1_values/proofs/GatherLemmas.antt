@@ -9,8 +9,8 @@ use Rattle.asn1_bits.specs.Bits.{digits, bits}
 use Rattle.asn1_bits.specs.Turns.{turns_for}
 use Rattle.asn1_bits.specs.declared.bit_appender.BitAppender.{BitAppender}
 use Rattle.asn1_bits.specs.BitAppender.{bits_written, room, lender_of, words_placed}
-use Rattle.asn1_bits.specs.DigitLaws.{length-digits}
-use Rattle.asn1_bits.specs.NumberLaws.{digits-append, digits-low}
+use Rattle.asn1_bits.specs.Laws.DigitLaws.{length-digits}
+use Rattle.asn1_bits.specs.Laws.NumberLaws.{digits-append, digits-low}
 use Rattle.asn1_values.specs.Fields.{Field, IsSpelledBy, AreSpelledBy, Number, Octets, Bits, Integer, Character, CountedInteger, Identifier}
 use Rattle.asn1_values.specs.Steps.{TakesBits, PushesOne, PushesAll, PushesGathered, Gathers, PushesBehind, HasRoomFor, HasRoomBehind, HaveRoom, TakeTurns}
 use Rattle.asn1_bits.specs.Joined.{AreJoined}

@@ -16,9 +16,9 @@ use Rattle.asn1_values.specs.Wrong.{Fault, NumberWidth, NotInteger, Short, NoCha
 use Rattle.asn1_values.specs.Walk.{field_at, fields_at}
 use Rattle.asn1_values.specs.Refusals.{IsReadRefusal}
 use Rattle.asn1_values.specs.Steps.{past_all, error_at}
-use Rattle.asn1_bits.specs.DigitLaws.{length-bits}
+use Rattle.asn1_bits.specs.Laws.DigitLaws.{length-bits}
 use Rattle.asn1_alphabets.specs.AlphabetView.{alphabet_of}
-use Rattle.asn1_alphabets.specs.AlphabetViewLaws.{codes_fit}
+use Rattle.asn1_alphabets.specs.Laws.AlphabetViewLaws.{codes_fit}
 use Rattle.asn1_values.proofs.BitsKind.{bits_exact}
 use Rattle.asn1_values.proofs.CharacterKind.{character_exact}
 use Rattle.asn1_values.proofs.CountedIntegerKind.{counted_exact}

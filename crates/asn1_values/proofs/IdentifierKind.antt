@@ -5,13 +5,13 @@ use Rattle.std.proofs.lemmas.List.{length-append, length-take, take_at}
 use Rattle.std.proofs.lemmas.Bool.{eqb-true, eqb-false, ne_eqb, le-ltb}
 use Rattle.asn1_bits.specs.Bits.{bits}
 use Rattle.asn1_bits.specs.View.{View, list_of}
-use Rattle.asn1_bits.specs.DigitLaws.{length-bits}
+use Rattle.asn1_bits.specs.Laws.DigitLaws.{length-bits}
 use Rattle.asn1_oid.specs.Contents.{IsContents, FitU32}
 use Rattle.asn1_oid.specs.declared.contents.ContentsError.{ContentsError}
 use Rattle.asn1_oid.specs.declared.contents.ContentsError.TheVariants.{Malformed, ArcTooLarge, Memory}
 use Rattle.asn1_oid.specs.Reading.{contents_reading}
-use Rattle.asn1_oid.specs.ReadingLaws.{contents_read, large_read, none_read, arcs_from_reading, large_from_reading, none_from_reading, no_want_of_memory}
-use Rattle.asn1_oid.specs.WritingLaws.{contents_octets, contents_only, some_contents}
+use Rattle.asn1_oid.specs.Laws.ReadingLaws.{contents_read, large_read, none_read, arcs_from_reading, large_from_reading, none_from_reading, no_want_of_memory}
+use Rattle.asn1_oid.specs.Laws.WritingLaws.{contents_octets, contents_only, some_contents}
 use Rattle.asn1_values.specs.Fields.{Field, IsSpelledBy, IsOfShape, Identifier, OfIdentifier}
 use Rattle.asn1_values.specs.Wrong.{Fault, Short, NotIdentifier, ArcOver, IsReason, IsNoIdentifier, HoldsLargeArc}
 use Rattle.asn1_values.specs.Walk.{octets_of, identifier_or_fault, identifier_content, with_rest, cut_at, field_at}

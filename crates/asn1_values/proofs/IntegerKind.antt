@@ -4,19 +4,19 @@ use Rattle.std.specs.Prelude.{◌||◌, ◌&&◌, nat_lt, is_ok, All}
 use Rattle.std.proofs.lemmas.List.{length-append, take_at, drop_at}
 use Rattle.std.proofs.lemmas.Bool.{false≢true, eqb-true, eqb-false, ne_eqb, lt-ltb, cases_eq}
 use Rattle.asn1_bits.specs.Bits.{digits, number, bits}
-use Rattle.asn1_bits.specs.DigitLaws.{length-digits, length-bits}
-use Rattle.asn1_bits.specs.NumberLaws.{number-append, number_of-digits, digits-append}
+use Rattle.asn1_bits.specs.Laws.DigitLaws.{length-digits, length-bits}
+use Rattle.asn1_bits.specs.Laws.NumberLaws.{number-append, number_of-digits, digits-append}
 use Rattle.asn1_number.specs.Octets.{IsOctets, IsShortest, signed}
 use Rattle.asn1_number.specs.Order.{NineBitsDiffer}
-use Rattle.asn1_number.specs.LawsHold.{shortest_by_nine_bits}
+use Rattle.asn1_number.specs.Laws.LawsHold.{shortest_by_nine_bits}
 use Rattle.asn1_values.specs.Fields.{Field, IsSpelledBy, IsOfShape, Integer, OfInteger}
 use Rattle.asn1_integer.specs.IntegerOctets.{IsNoInteger}
 use Rattle.asn1_values.specs.Wrong.{Fault, NotInteger, IsReason}
 use Rattle.asn1_values.specs.Walk.{octets_of, nine_alike, integer_content, cut_at, integer_at, field_at}
-use Rattle.asn1_integer.specs.WordLaws.{IsOctets_from_All, All_from_IsOctets}
+use Rattle.asn1_integer.specs.Laws.WordLaws.{IsOctets_from_All, All_from_IsOctets}
 use Rattle.asn1_values.proofs.OctetLemmas.{length-octets_of, octets-octets_of, bits-octets_of, octets_of-bits}
 use Rattle.asn1_values.proofs.ExactKinds.{IsExact, HoldsExactly, Takes, cut_exact, chosen, err_is, err_is_no_ok, held_is, no_fault, fault_is, no_field}
-use Rattle.asn1_values.specs.SpellingLaws.{same_shortest}
+use Rattle.asn1_values.specs.Laws.SpellingLaws.{same_shortest}
 use Rattle.asn1_values.proofs.OneSpelling.{length-spelled}
 
 -- ---- the first nine bits

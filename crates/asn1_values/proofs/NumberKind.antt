@@ -2,8 +2,8 @@
 use Rattle.std.proofs.Common.{◌≡◌, ℕ, ◌≤◌, Bool, ltb, List, ◌++◌, length, Ok, Err, refl, sym, ap, subst, ◌∙◌, arith, inl, inr}
 use Rattle.std.proofs.lemmas.Bool.{ltb-true, ltb-false, le-ltb}
 use Rattle.asn1_bits.specs.Bits.{number}
-use Rattle.asn1_bits.specs.DigitLaws.{length-digits}
-use Rattle.asn1_bits.specs.NumberLaws.{number_of-digits, digits_of-number, number-below}
+use Rattle.asn1_bits.specs.Laws.DigitLaws.{length-digits}
+use Rattle.asn1_bits.specs.Laws.NumberLaws.{number_of-digits, digits_of-number, number-below}
 use Rattle.asn1_values.specs.Fields.{Field, IsSpelledBy, IsOfShape, Number, OfNumber}
 use Rattle.asn1_values.specs.Wrong.{Fault, NumberWidth, IsReason}
 use Rattle.asn1_values.specs.Walk.{cut_at, number_content, field_at}

@@ -5,8 +5,8 @@ use Rattle.std.proofs.lemmas.List.Elements.{All-nil, All-cons, All-head, All-tai
 use Rattle.std.specs.Prelude.{All}
 use Rattle.asn1_bits.specs.Bits.{digits, number, bits}
 use Rattle.asn1_values.specs.Walk.{octets_of}
-use Rattle.asn1_bits.specs.DigitLaws.{length-digits}
-use Rattle.asn1_bits.specs.NumberLaws.{number_of-digits, digits_of-number, number-below}
+use Rattle.asn1_bits.specs.Laws.DigitLaws.{length-digits}
+use Rattle.asn1_bits.specs.Laws.NumberLaws.{number_of-digits, digits_of-number, number-below}
 
 pub length-octets_of : (n : ℕ) (list : List Bool) → length (octets_of n list) ≡ n
 length-octets_of zero list = refl

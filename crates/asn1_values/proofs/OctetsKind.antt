@@ -1,6 +1,6 @@
 -- The laws of octets as fields.
 use Rattle.std.proofs.Common.{◌≡◌, ℕ, ◌*◌, Bool, List, length, Ok, sym, ap, subst, ◌∙◌, arith}
-use Rattle.asn1_bits.specs.DigitLaws.{length-bits}
+use Rattle.asn1_bits.specs.Laws.DigitLaws.{length-bits}
 use Rattle.asn1_values.specs.Fields.{Field, IsSpelledBy, IsOfShape, Octets, OfOctets}
 use Rattle.asn1_values.specs.Walk.{octets_of, octets_content, field_at}
 use Rattle.asn1_values.proofs.OctetLemmas.{length-octets_of, octets-octets_of, bits-octets_of, octets_of-bits}

@@ -3,13 +3,13 @@ use Rattle.std.proofs.Common.{inl, inr, arith, ◌≡◌, ℕ, ◌+◌, ◌*◌,
 use Rattle.std.specs.Prelude.{IfSome}
 use Rattle.asn1_alphabets.specs.Alphabet.{Alphabet}
 use Rattle.asn1_oid.specs.Contents.{IsContents}
-use Rattle.asn1_oid.specs.WritingLaws.{contents_only}
-use Rattle.asn1_values.specs.SpellingLaws.{same_shortest, all_one}
+use Rattle.asn1_oid.specs.Laws.WritingLaws.{contents_only}
+use Rattle.asn1_values.specs.Laws.SpellingLaws.{same_shortest, all_one}
 use Rattle.asn1_values.specs.Fields as plain
 use Rattle.asn1_values.specs.Fields.{IsSpelledBy, IsOfShape, AreSpelledBy, GivesOneCodeEach, HasOneSpelling, HaveOneSpelling, GivesOneSpelling, GiveOneSpelling, Begins, need, needs, Number, Octets, Bits, Integer, Character, CountedInteger, Identifier, HasContentsLength, OfNumber, OfOctets, OfBits, OfInteger, OfCharacter, OfCountedInteger, OfIdentifier}
 use Rattle.std.specs.List.{AllZip}
 use Rattle.std.proofs.lemmas.List.{length-append}
-use Rattle.asn1_bits.specs.DigitLaws.{length-digits, length-bits}
+use Rattle.asn1_bits.specs.Laws.DigitLaws.{length-digits, length-bits}
 
 -- fields use the alphabets of their shapes
 pub in_one_code : (fs : List plain.Field) (ss : List plain.Shape) → AllZip IsOfShape fs ss → GiveOneSpelling ss

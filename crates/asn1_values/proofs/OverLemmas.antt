@@ -3,14 +3,14 @@ use Rattle.std.proofs.Common.{◌≡◌, ℕ, ◌+◌, ◌*◌, ◌≤◌, Bool,
 use Rattle.std.specs.Prelude.{ℤ}
 use Rattle.std.proofs.lemmas.List.{length-append}
 use Rattle.asn1_bits.specs.Bits.{digits, bits, overwritten}
-use Rattle.asn1_bits.specs.DigitLaws.{length-bits, bits-push}
-use Rattle.asn1_bits.specs.OverwrittenLaws.{length-overwritten, overwritten-none, overwritten-append}
+use Rattle.asn1_bits.specs.Laws.DigitLaws.{length-bits, bits-push}
+use Rattle.asn1_bits.specs.Laws.OverwrittenLaws.{length-overwritten, overwritten-none, overwritten-append}
 use Rattle.asn1_number.specs.Octets.{IsShortest}
 use Rattle.asn1_values.specs.Fields.{Field, IsSpelledBy, AreSpelledBy, CountedInteger}
 use Rattle.asn1_values.specs.Wrong.{Fits}
 use Rattle.asn1_values.specs.Steps.{IsReached, EndWithin, WritesOver, Overwrites, OverwritesAll}
 use Rattle.asn1_values.proofs.JoinedLemmas.{joins_push, joins_append, joins_split, Split}
-use Rattle.asn1_values.specs.SpellingLaws.{same_shortest}
+use Rattle.asn1_values.specs.Laws.SpellingLaws.{same_shortest}
 
 -- ---- lists
 

@@ -8,8 +8,8 @@ use Rattle.asn1_bits.specs.Bits.{digits, bits}
 use Rattle.asn1_bits.specs.Turns.{turns_for}
 use Rattle.asn1_bits.specs.declared.bit_appender.BitAppender.{BitAppender}
 use Rattle.asn1_bits.specs.BitAppender.{bits_written, room, lender_of, words_placed}
-use Rattle.asn1_bits.specs.DigitLaws.{bits-push, length-bits}
-use Rattle.asn1_bits.specs.NumberLaws.{digits-append, digits-low}
+use Rattle.asn1_bits.specs.Laws.DigitLaws.{bits-push, length-bits}
+use Rattle.asn1_bits.specs.Laws.NumberLaws.{digits-append, digits-low}
 use Rattle.asn1_values.specs.Steps.{PushesList}
 
 -- of all octets those before the rest were taken, the last of them as a word of so many bits that is yet to be pushed

@@ -5,9 +5,9 @@ use Rattle.std.specs.Int.{div_ceil}
 use Rattle.asn1_bits.specs.Turns.{turns_for}
 use Rattle.asn1_number.specs.Octets.{IsShortest}
 use Rattle.asn1_oid.specs.Contents.{IsContents, FitU32}
-use Rattle.asn1_oid.specs.WritingLaws.{contents_only}
+use Rattle.asn1_oid.specs.Laws.WritingLaws.{contents_only}
 use Rattle.asn1_alphabets.specs.Alphabet.{Alphabet, IsCode}
-use Rattle.asn1_values.specs.SpellingLaws.{same_shortest}
+use Rattle.asn1_values.specs.Laws.SpellingLaws.{same_shortest}
 use Rattle.std.specs.Option.{option_map}
 use Rattle.std.proofs.lemmas.List.{length-append, map_more, map-append, take-map, take-append-drop, drop_more}
 use Rattle.std.proofs.lemmas.Nat.{pow_pos}
@@ -17,7 +17,7 @@ use Rattle.std.proofs.lemmas.Option.{same_Some, slice_get_read, slice_get-map}
 use Rattle.asn1_bits.specs.Bits.{digits, bits}
 use Rattle.asn1_bits.specs.declared.bit_appender.BitAppender.{BitAppender}
 use Rattle.asn1_bits.specs.BitAppender.{bits_written, room, lender_of, words_placed}
-use Rattle.asn1_bits.specs.DigitLaws.{length-digits, length-bits}
+use Rattle.asn1_bits.specs.Laws.DigitLaws.{length-digits, length-bits}
 use Rattle.asn1_values.specs.declared.bit_fields.error.WriteError.{WriteError}
 use Rattle.asn1_values.specs.declared.bit_fields.error.WriteError.TheVariants as errors
 use Rattle.asn1_values.specs.declared.bit_fields.field.Field.{Field as Program}

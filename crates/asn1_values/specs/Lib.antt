@@ -8,7 +8,7 @@ pub mod Words
 pub mod Walk
 pub mod Steps
 -- Laws of these words, for the proofs of this crate and of those above it; no contract cites them.
-pub mod SpellingLaws
+pub mod Laws
 -- The words of the crates below that contracts of their public calls cite, so that a user's
 -- contracts name this crate alone.
 pub use Rattle.asn1_bits.specs.Bits

@@ -2,8 +2,8 @@
 -- Declares nothing.
 unfoldable pub use Rattle.asn1_bits.specs.Bits.{bits, digits, overwritten}
 pub use Rattle.asn1_bits.specs.Bits.{number, octets_for, padded}
-pub use Rattle.asn1_bits.specs.NumberLaws.{number-digits, same_octets}
-pub use Rattle.asn1_bits.specs.DigitLaws.{length-bits}
+pub use Rattle.asn1_bits.specs.Laws.NumberLaws.{number-digits, same_octets}
+pub use Rattle.asn1_bits.specs.Laws.DigitLaws.{length-bits}
 unfoldable pub use Rattle.asn1_bits.specs.View.{list_of}
 pub use Rattle.asn1_bits.specs.BitStr.{view_of, bits_of}
 pub use Rattle.asn1_bits.specs.BitReader.{view_left, bits_left}
@@ -14,6 +14,6 @@ pub use Rattle.asn1_oid.specs.Arcs.{dotted}
 unfoldable pub use Rattle.asn1_strings.specs.Sets.{base_set}
 pub use Rattle.asn1_alphabets.specs.Alphabet.{Alphabet, counting_set, effective, keeps}
 pub use Rattle.asn1_alphabets.specs.AlphabetView.{alphabet_of}
-pub use Rattle.asn1_alphabets.specs.AlphabetLaws.{code_is_one}
+pub use Rattle.asn1_alphabets.specs.Laws.AlphabetLaws.{code_is_one}
 pub use Rattle.asn1_characters.specs.declared.character_set.CharacterSetName.{CharacterSetName}
 pub use Rattle.asn1_characters.specs.declared.character_set.CharacterSetName.TheVariants.{Bmp, General, Graphic, IA5, Numeric, Printable, Teletex, Visible}

@@ -3,4 +3,4 @@ pub mod Elements
 pub mod Room
 pub mod Walks
 -- Laws of the definitions: no contract cites one.
-pub mod ElementLaws
+pub mod Laws

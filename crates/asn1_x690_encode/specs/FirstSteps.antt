@@ -1,7 +1,7 @@
 -- What follows of the identifier with which bits begin.
 use Rattle.std.proofs.Common.{◌≡◌, ◌+◌, List, [], Bool, length, ap, ◌∙◌, subst, Some, arith}
 use Rattle.std.proofs.lemmas.List.{length-append}
-use Rattle.asn1_bits.specs.DigitLaws.{length-digits}
+use Rattle.asn1_bits.specs.Laws.DigitLaws.{length-digits}
 use Rattle.asn1_x690.specs.declared.tables.FirstTags.{FirstTags}
 use Rattle.asn1_x690.specs.declared.tables.Identifier.{Identifier}
 use Rattle.asn1_x690.specs.declared.tables.Tag.{Tag}

@@ -3,7 +3,7 @@ use Rattle.std.proofs.Common.{◌≡◌, ℕ, ◌+◌, ◌-◌, ◌*◌, ◌/◌
 use Rattle.std.proofs.Math.Seq.{take-add}
 use Rattle.std.proofs.lemmas.List.{drop-drop}
 use Rattle.asn1_bits.specs.Bits.{number as number_of}
-use Rattle.asn1_bits.specs.NumberLaws.{number-append, number-lt}
+use Rattle.asn1_bits.specs.Laws.NumberLaws.{number-append, number-lt}
 use Rattle.asn1_schema.specs.Encodings.{Fault, Starts, number}
 use Rattle.asn1_schema.specs.Fields.{raw_bits}
 use Rattle.asn1_schema.specs.PiecesOfParts.{bits_at}

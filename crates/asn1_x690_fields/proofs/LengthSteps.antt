@@ -5,7 +5,7 @@ use Rattle.std.proofs.Math.Pow.{pow_mono}
 use Rattle.std.proofs.Math.Seq.{take-add}
 use Rattle.std.proofs.lemmas.List.{length-take-le, length-drop}
 use Rattle.asn1_bits.specs.Bits.{number as number_of}
-use Rattle.asn1_bits.specs.NumberLaws.{number-append, number-lt, number_is}
+use Rattle.asn1_bits.specs.Laws.NumberLaws.{number-append, number-lt, number_is}
 use Rattle.asn1_schema.specs.Encodings.{Fault, Encoding, Starts, IsAt, number, constant, invalid, cases}
 use Rattle.asn1_schema.specs.Fields.{raw_bits}
 use Rattle.asn1_x690.specs.declared.fault.FaultKind.{FaultKind}

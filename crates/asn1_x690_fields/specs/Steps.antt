@@ -3,7 +3,7 @@ use Rattle.std.proofs.Common.{◌≡◌, ℕ, ◌+◌, ◌-◌, ◌<◌, ◌≤�
 use Rattle.std.proofs.lemmas.List.{length-take-le, length-drop, drop-take, drop-drop}
 use Rattle.std.proofs.Math.Seq.{take-add}
 use Rattle.asn1_bits.specs.Bits.{number as number_of}
-use Rattle.asn1_bits.specs.NumberLaws.{number_is}
+use Rattle.asn1_bits.specs.Laws.NumberLaws.{number_is}
 use Rattle.asn1_schema.specs.Encodings.{Fault, Encoding, Starts, IsAt, number, constant, then, cases}
 use Rattle.asn1_schema.specs.Fields.{raw_bits}
 use Rattle.asn1_x690.specs.declared.fault.FaultKind.{FaultKind}

@@ -4,8 +4,8 @@ use Rattle.std.proofs.lemmas.List.{length-take-le, length-drop, length-append, d
 use Rattle.std.proofs.lemmas.Nat.{pow_pos}
 use Rattle.std.proofs.Math.Seq.{take-add}
 use Rattle.asn1_bits.specs.Bits.{number, digits}
-use Rattle.asn1_bits.specs.DigitLaws.{length-digits}
-use Rattle.asn1_bits.specs.NumberLaws.{number_of-digits, digits_of-number}
+use Rattle.asn1_bits.specs.Laws.DigitLaws.{length-digits}
+use Rattle.asn1_bits.specs.Laws.NumberLaws.{number_of-digits, digits_of-number}
 use Rattle.asn1_schema.specs.declared.part.Span.{Span}
 use Rattle.asn1_schema.specs.PiecesOfParts.{bits_at, bits_of}
 use Rattle.asn1_schema.specs.Laws.EncodingLaws.{same_fronts}

@@ -6,11 +6,11 @@ use Rattle.std.proofs.lemmas.List.{length-take-le, length-drop, take_all}
 use Rattle.std.proofs.Math.Nat.{pow-suc}
 use Rattle.std.proofs.Math.Seq.{take-add}
 use Rattle.asn1_bits.specs.Bits.{number}
-use Rattle.asn1_bits.specs.NumberLaws.{number-append, number-lt}
+use Rattle.asn1_bits.specs.Laws.NumberLaws.{number-append, number-lt}
 use Rattle.asn1_number.specs.Octets.{IsOctets, signed, IsShortest}
 use Rattle.asn1_number.specs.Order.{NineBitsDiffer}
-use Rattle.asn1_number.specs.OctetLaws.{shortest_from_nine_bits, nine_bits_from_shortest}
-use Rattle.asn1_integer.specs.WordLaws.{IsOctets_from_All, All_from_IsOctets, word_value}
+use Rattle.asn1_number.specs.Laws.OctetLaws.{shortest_from_nine_bits, nine_bits_from_shortest}
+use Rattle.asn1_integer.specs.Laws.WordLaws.{IsOctets_from_All, All_from_IsOctets, word_value}
 use Rattle.asn1_schema.specs.declared.part.Span.{Span}
 use Rattle.asn1_schema.specs.CharactersOfParts.{numbers_in}
 use Rattle.asn1_schema.specs.PiecesOfParts.{bits_of, signed_number}

@@ -7,11 +7,11 @@ use Rattle.std.proofs.lemmas.Nat.{pow-add, div-mul-add}
 use Rattle.std.proofs.Math.Nat.{mul-le-mul_left}
 use Rattle.std.proofs.Math.Seq.{take-append-add}
 use Rattle.asn1_bits.specs.Bits.{bits, digits, is_odd, overwritten}
-use Rattle.asn1_bits.specs.DigitLaws.{length-digits, length-bits, bits-take, bits-drop}
-use Rattle.asn1_bits.specs.NumberLaws.{digits-append, digits-low}
+use Rattle.asn1_bits.specs.Laws.DigitLaws.{length-digits, length-bits, bits-take, bits-drop}
+use Rattle.asn1_bits.specs.Laws.NumberLaws.{digits-append, digits-low}
 use Rattle.asn1_oid.specs.Contents.{IsSeries as AreSeries}
 use Rattle.asn1_oid.specs.Writing.{HasDigits, last_octets}
-use Rattle.asn1_oid.specs.WritingLaws.{last_octets_are, last_octet, octet_before, next_power}
+use Rattle.asn1_oid.specs.Laws.WritingLaws.{last_octets_are, last_octet, octet_before, next_power}
 use Rattle.asn1_schema.specs.Encodings.{IsNumber}
 use Rattle.asn1_x690.specs.declared.tables.Identifier.{Identifier}
 use Rattle.asn1_x690.specs.Elements.{class_of, identifier_of, identifier, length_octets, long_length as long_length_in}

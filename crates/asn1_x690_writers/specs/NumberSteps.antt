@@ -5,10 +5,10 @@ use Rattle.std.proofs.Math.Nat.{pow-succ'}
 use Rattle.std.proofs.Math.Pow.{pow_mono}
 use Rattle.std.specs.Int.{bytes_high_first}
 use Rattle.asn1_bits.specs.Bits.{bits, digits}
-use Rattle.asn1_bits.specs.ByteLaws.{bits-bytes}
-use Rattle.asn1_bits.specs.DigitLaws.{length-digits}
+use Rattle.asn1_bits.specs.Laws.ByteLaws.{bits-bytes}
+use Rattle.asn1_bits.specs.Laws.DigitLaws.{length-digits}
 use Rattle.asn1_number.specs.Shortest.{octets_past_first, residue_at, shortest_octets}
-use Rattle.asn1_number.specs.ShortestLaws.{past_first_only, shortest_octets_are}
+use Rattle.asn1_number.specs.Laws.ShortestLaws.{past_first_only, shortest_octets_are}
 use Rattle.asn1_x691_writers.specs.Written.{IsGrown}
 use Rattle.asn1_x690_writers.specs.Numbers.{mag_of, IsNumberWritten}
 use lib.Signed.{mag, le_z}

@@ -2,7 +2,7 @@
 use Rattle.std.proofs.Common.{◌≡◌, ℕ, ◌+◌, ◌*◌, ◌^◌, ◌<◌, List, [], ◌∷◌, ◌++◌, Bool, length, take, drop, set, refl, sym, ◌∙◌, ap, subst, arith}
 use Rattle.std.proofs.lemmas.List.{append-nil, take_more_set, set_split, length-set}
 use Rattle.asn1_bits.specs.Bits.{bits, digits, overwritten}
-use Rattle.asn1_bits.specs.DigitLaws.{length-bits, length-digits, bits-append, bits-take, bits-drop}
+use Rattle.asn1_bits.specs.Laws.DigitLaws.{length-bits, length-digits, bits-append, bits-take, bits-drop}
 use Rattle.asn1_x691_writers.specs.GrownSteps.{grown_stored}
 use Rattle.asn1_x691_writers.specs.Written.{IsGrown}
 

@@ -4,8 +4,8 @@ use Rattle.std.proofs.lemmas.List.{length-append, append-nil, length-take, lengt
 use Rattle.std.proofs.Math.Nat.{mul-mod_right, mul_assoc}
 use Rattle.std.proofs.Math.Pow.{pow_mono}
 use Rattle.asn1_bits.specs.Bits.{bits, digits, number}
-use Rattle.asn1_bits.specs.DigitLaws.{length-bits, length-digits}
-use Rattle.asn1_bits.specs.NumberLaws.{number-below}
+use Rattle.asn1_bits.specs.Laws.DigitLaws.{length-bits, length-digits}
+use Rattle.asn1_bits.specs.Laws.NumberLaws.{number-below}
 use Rattle.asn1_schema.specs.declared.part.Characters.{Characters}
 use Rattle.asn1_schema.specs.declared.part.Codes.{Codes}
 use Rattle.asn1_schema.specs.declared.tables.Range.{Range}

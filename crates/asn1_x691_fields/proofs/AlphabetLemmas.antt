@@ -6,7 +6,7 @@ use Rattle.std.proofs.lemmas.Bool.{cases_lt, lt-ltb, le-ltb, ltb-false}
 use Rattle.std.proofs.lemmas.Bool.Decides.{nat_tests}
 use Rattle.std.proofs.lemmas.Nat.{pow_pos}
 use Rattle.asn1_characters.specs.Widths.{IsLeastWidth, ceil_log2, align, width_for}
-use Rattle.asn1_characters.specs.WidthLaws.{twice, ceil_log2_is_least}
+use Rattle.asn1_characters.specs.Laws.WidthLaws.{twice, ceil_log2_is_least}
 use Rattle.asn1_schema.specs.declared.tables.Range.{Range}
 use Rattle.asn1_schema.specs.CharactersOfParts.{characters_below, end_of, first_past, character_at}
 use Rattle.asn1_schema.specs.Laws.CharacterLaws.{below_more, none_past, character_is}

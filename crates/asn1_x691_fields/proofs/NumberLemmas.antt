@@ -5,7 +5,7 @@ use Rattle.std.proofs.Math.Pow.{pow_mono}
 use Rattle.std.proofs.lemmas.Bool.{cases_lt}
 use Rattle.std.proofs.lemmas.Nat.{leading_top, leading_length, le-div, div_below}
 use Rattle.asn1_characters.specs.Widths.{IsLeastWidth}
-use Rattle.asn1_characters.specs.WidthLaws.{ceil_log2_is, too_few}
+use Rattle.asn1_characters.specs.Laws.WidthLaws.{ceil_log2_is, too_few}
 use Rattle.asn1_characters.proofs.WidthLemmas.{none_is_least}
 use Rattle.asn1_x691.specs.Fields.{width_to}
 

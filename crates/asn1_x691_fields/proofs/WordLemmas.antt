@@ -7,8 +7,8 @@ use Rattle.std.proofs.Math.ListN.{drop_of_length-le}
 use Rattle.std.proofs.Math.Nat.{div-mul-le_self}
 use Rattle.std.proofs.Math.Pow.{shr_lt}
 use Rattle.asn1_bits.specs.Bits.{number, digits}
-use Rattle.asn1_bits.specs.DigitLaws.{length-digits}
-use Rattle.asn1_bits.specs.NumberLaws.{digits-append, digits-low, number_of-digits}
+use Rattle.asn1_bits.specs.Laws.DigitLaws.{length-digits}
+use Rattle.asn1_bits.specs.Laws.NumberLaws.{digits-append, digits-low, number_of-digits}
 use Rattle.asn1_schema.specs.CharactersOfParts.{numbers_in}
 
 -- the numbers of the bits before it alone

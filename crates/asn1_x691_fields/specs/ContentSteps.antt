@@ -7,10 +7,10 @@ use Rattle.std.proofs.lemmas.Bool.Decides.{nat_tests}
 use Rattle.std.proofs.lemmas.List.{drop-drop, length-take, length-take-le, length-drop, length-append}
 use Rattle.std.proofs.lemmas.List.Elements.{All-nil, All-cons, All-append}
 use Rattle.asn1_bits.specs.Bits.{bits, digits, number}
-use Rattle.asn1_bits.specs.NumberLaws.{number-below, digits_of-number, same_octets}
+use Rattle.asn1_bits.specs.Laws.NumberLaws.{number-below, digits_of-number, same_octets}
 use Rattle.asn1_oid.specs.Contents.{IsSeries, AreSubidentifiers, IsContents, subidentifiers}
 use Rattle.asn1_oid.specs.Reading.{with_front, numbers_from, numbers_of, first_arc, second_arc}
-use Rattle.asn1_oid.specs.ReadingLaws.{subidentifiers_read, subidentifiers_are_read, numbers_back, valid_back}
+use Rattle.asn1_oid.specs.Laws.ReadingLaws.{subidentifiers_read, subidentifiers_are_read, numbers_back, valid_back}
 use Rattle.asn1_schema.specs.declared.part.Span.{Span}
 use Rattle.asn1_schema.specs.CharactersOfParts.{numbers_in}
 use Rattle.asn1_schema.specs.PiecesOfParts.{bits_of}

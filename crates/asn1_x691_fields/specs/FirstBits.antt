@@ -6,7 +6,7 @@ use Rattle.std.proofs.Math.Seq.{take-add}
 use Rattle.std.proofs.lemmas.List.{length-take-le, length-drop}
 use Rattle.std.proofs.lemmas.Nat.{pow-add}
 use Rattle.asn1_bits.specs.Bits.{number}
-use Rattle.asn1_bits.specs.NumberLaws.{number-append, number-cons, number-lt}
+use Rattle.asn1_bits.specs.Laws.NumberLaws.{number-append, number-cons, number-lt}
 use Rattle.asn1_schema.specs.PiecesOfParts.{signed_number}
 use Rattle.asn1_x691.specs.Fields.{below_minus_one}
 

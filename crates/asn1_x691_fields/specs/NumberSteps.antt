@@ -4,7 +4,7 @@ use Rattle.std.specs.Prelude.{◌⊎◌, ⊤}
 use Rattle.std.proofs.Math.Pow.{pow_mono}
 use Rattle.std.proofs.lemmas.List.{append-nil}
 use Rattle.asn1_bits.specs.Bits.{number as number_of}
-use Rattle.asn1_bits.specs.NumberLaws.{number_is}
+use Rattle.asn1_bits.specs.Laws.NumberLaws.{number_is}
 use Rattle.asn1_schema.specs.Encodings.{Fault, Encoding, Starts, IsAt, number, anywhere, constant, invalid, then, cases, in_turn, in_case}
 use Rattle.asn1_schema.specs.Fields.{raw_bits}
 use Rattle.asn1_schema.specs.PiecesOfParts.{signed_number}

@@ -7,7 +7,7 @@ use Rattle.std.proofs.Math.Nat.{pow-suc}
 use Rattle.std.proofs.Math.Pow.{pow_mono}
 use Rattle.std.proofs.Math.Seq.{take-add}
 use Rattle.asn1_bits.specs.Bits.{number}
-use Rattle.asn1_bits.specs.NumberLaws.{number_is}
+use Rattle.asn1_bits.specs.Laws.NumberLaws.{number_is}
 use Rattle.asn1_schema.specs.PiecesOfParts.{signed_number}
 use Rattle.asn1_x691.specs.Leaves.{IsOutside}
 use Rattle.asn1_x691_fields.specs.FirstBits.{by_sign}

@@ -4,7 +4,7 @@ use Rattle.std.proofs.lemmas.List.{length-append, length-take-le, length-drop, d
 use Rattle.std.proofs.Math.Seq.{take-add}
 use Rattle.std.specs.Prelude.{nat_eq, zero, suc}
 use Rattle.asn1_bits.specs.Bits.{digits, is_odd, number as number_of}
-use Rattle.asn1_bits.specs.NumberLaws.{number_is}
+use Rattle.asn1_bits.specs.Laws.NumberLaws.{number_is}
 use Rattle.asn1_schema.specs.Encodings.{Fault, Encoding, Starts, IsAt, number, constant, then, in_turn}
 use Rattle.asn1_schema.specs.Fields.{raw_bits}
 use Rattle.asn1_x691.specs.declared.fault.FaultKind.{FaultKind}

@@ -3,7 +3,7 @@ use Rattle.std.proofs.Common.{◌≡◌, ℕ, zero, suc, ◌+◌, ◌*◌, ◌^�
 use Rattle.std.proofs.lemmas.List.{append-nil, drop-drop, length-take-le, length-drop}
 use Rattle.std.proofs.Math.Seq.{take-add}
 use Rattle.asn1_bits.specs.Bits.{number, digits}
-use Rattle.asn1_bits.specs.NumberLaws.{number-lt, digits_of-number}
+use Rattle.asn1_bits.specs.Laws.NumberLaws.{number-lt, digits_of-number}
 use Rattle.asn1_schema.specs.declared.tables.Range.{Range}
 use Rattle.asn1_schema.specs.declared.tables.Rows.{Rows}
 use Rattle.asn1_schema.specs.CharactersOfParts.{numbers_in, character_at, character_of, characters_of}

@@ -4,7 +4,7 @@ use Rattle.std.specs.Prelude.{nat_eq}
 use Rattle.std.proofs.Math.Seq.{take-add}
 use Rattle.std.proofs.lemmas.List.{drop-drop}
 use Rattle.asn1_bits.specs.Bits.{number}
-use Rattle.asn1_bits.specs.NumberLaws.{number_is}
+use Rattle.asn1_bits.specs.Laws.NumberLaws.{number_is}
 use Rattle.asn1_schema.specs.declared.tables.Length.{Length}
 use Rattle.asn1_schema.specs.Encodings.{Fault, Encoding, Starts, IsAt}
 use Rattle.asn1_x691.specs.declared.fault.FaultKind.{FaultKind}

@@ -1,7 +1,7 @@
 -- Octets that are valid contents are whole.
 use Rattle.std.proofs.Common.{◌≡◌, ℕ, ◌*◌, ◌%◌, List, Bool, length, ap, ◌∙◌, arith}
 use Rattle.asn1_bits.specs.Bits.{bits}
-use Rattle.asn1_bits.specs.DigitLaws.{length-bits}
+use Rattle.asn1_bits.specs.Laws.DigitLaws.{length-bits}
 use Rattle.asn1_x691_writers.specs.declared.contents.ContentsKind.{ContentsKind}
 use Rattle.asn1_x691_writers.specs.declared.contents.ContentsKind.TheVariants.{ObjectIdentifier, RelativeIdentifier, Utf8, Real}
 use Rattle.asn1_x691_writers.specs.Validity.{IsValid}

@@ -4,7 +4,7 @@ use Rattle.std.specs.Prelude.{◌⊎◌}
 use Rattle.std.proofs.Math.Pow.{pow_mono}
 use Rattle.std.proofs.lemmas.Bool.{cases_lt}
 use Rattle.std.proofs.lemmas.Nat.{div-mul-add, pow-add, pow_pos}
-use Rattle.asn1_characters.specs.WidthLaws.{ceil_log2_is_least}
+use Rattle.asn1_characters.specs.Laws.WidthLaws.{ceil_log2_is_least}
 use Rattle.asn1_x691.specs.Fields.{width_to, octets_needed}
 use Rattle.asn1_x691.specs.Laws.OneEncodingLaws.{IsMinimal}
 

@@ -6,8 +6,8 @@ use Rattle.std.proofs.Math.Seq.{take-add, drop-cons}
 use Rattle.std.proofs.lemmas.List.{length-append, length-take-le, take_at}
 use Rattle.std.proofs.lemmas.Nat.{div-mul-add, mul-add-lt, shl_below, pow-add, pow_pos, div_below}
 use Rattle.asn1_bits.specs.Bits.{bits, digits, overwritten}
-use Rattle.asn1_bits.specs.DigitLaws.{length-digits, bits-drop}
-use Rattle.asn1_bits.specs.NumberLaws.{digits-append, digits-low}
+use Rattle.asn1_bits.specs.Laws.DigitLaws.{length-digits, bits-drop}
+use Rattle.asn1_bits.specs.Laws.NumberLaws.{digits-append, digits-low}
 use Rattle.asn1_bits.proofs.WindowLemmas.{shifted-digits}
 
 bits-cons : (octet : ℕ) (octets : List ℕ) → bits (octet ∷ octets) ≡ digits octet 8 ++ bits octets

@@ -4,7 +4,7 @@ use Rattle.std.proofs.Math.Nat.{pow-suc}
 use Rattle.std.proofs.Math.Seq.{take-add}
 use Rattle.std.proofs.lemmas.List.{drop-drop}
 use Rattle.asn1_bits.specs.Bits.{number}
-use Rattle.asn1_bits.specs.NumberLaws.{number-cons, number-lt}
+use Rattle.asn1_bits.specs.Laws.NumberLaws.{number-cons, number-lt}
 use Rattle.asn1_schema.specs.PiecesOfParts.{bits_at, signed_number}
 use Rattle.asn1_x691_fields.specs.Numbers.{distance}
 use Rattle.asn1_x691_fields.specs.Steps.{front_length}

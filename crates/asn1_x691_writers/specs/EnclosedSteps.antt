@@ -3,7 +3,7 @@ use Rattle.std.proofs.Common.{◌≡◌, ℕ, ◌+◌, ◌*◌, ◌<◌, ◌≤�
 use Rattle.std.proofs.Math.Seq.{take-append-add}
 use Rattle.std.proofs.lemmas.List.{length-append, take_at, drop_at, drop-take, take-take, drop-drop}
 use Rattle.asn1_bits.specs.Bits.{bits, digits, overwritten}
-use Rattle.asn1_bits.specs.DigitLaws.{bits-take, bits-drop, length-digits}
+use Rattle.asn1_bits.specs.Laws.DigitLaws.{bits-take, bits-drop, length-digits}
 use Rattle.asn1_x691_writers.specs.Written.{IsIndex, Holds, IsGrown}
 use Rattle.asn1_x691_writers.specs.Enclosed.{IsOver}
 

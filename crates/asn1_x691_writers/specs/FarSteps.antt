@@ -2,7 +2,7 @@
 use Rattle.std.proofs.Common.{◌≡◌, ℕ, ℤ, pos, negsuc, suc, ◌+◌, ◌-◌, ◌*◌, ◌^◌, ◌<◌, ◌≤◌, List, [], ◌∷◌, Bool, true, false, length, refl, sym, ap, ◌∙◌, subst, inl, inr, arith}
 use Rattle.std.proofs.Math.Nat.{pow-suc}
 use Rattle.std.proofs.Math.Pow.{pow_mono}
-use Rattle.asn1_bits.specs.NumberLaws.{number-nil}
+use Rattle.asn1_bits.specs.Laws.NumberLaws.{number-nil}
 use Rattle.asn1_schema.specs.Encodings.{CanEncode}
 use Rattle.asn1_schema.specs.Laws.OneEncodingLaws.{only_constant}
 use Rattle.asn1_schema.specs.PiecesOfParts.{signed_number}

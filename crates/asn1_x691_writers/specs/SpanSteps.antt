@@ -5,7 +5,7 @@ use Rattle.std.proofs.Math.Nat.{div-eq_of_lt, pow-suc}
 use Rattle.std.proofs.lemmas.List.{length-append, length-replicate}
 use Rattle.std.proofs.Math.Pow.{pow_mono}
 use Rattle.asn1_bits.specs.Bits.{digits, number}
-use Rattle.asn1_bits.specs.NumberLaws.{digits-append, digits_of-number, number-lt, number-cons, number-nil}
+use Rattle.asn1_bits.specs.Laws.NumberLaws.{digits-append, digits_of-number, number-lt, number-cons, number-nil}
 use Rattle.asn1_schema.specs.Encodings.{Encoding, anywhere, cases, constant, invalid, number as number_in}
 use Rattle.asn1_x691.specs.declared.fault.FaultKind.{FaultKind}
 use Rattle.asn1_x691.specs.declared.fault.FaultKind.TheVariants.{Short, NotMinimal}

@@ -4,7 +4,7 @@ use Rattle.std.specs.Prelude.{◌⊎◌}
 use Rattle.std.proofs.Math.Seq.{take-append-add}
 use Rattle.std.proofs.lemmas.List.{length-append}
 use Rattle.asn1_bits.specs.Bits.{bits}
-use Rattle.asn1_bits.specs.DigitLaws.{length-bits, bits-append}
+use Rattle.asn1_bits.specs.Laws.DigitLaws.{length-bits, bits-append}
 use Rattle.asn1_x691_writers.specs.Written.{IsIndex, Holds, IsGrown}
 use Rattle.asn1_x691_writers.specs.GrownSteps.{index_is}
 

@@ -4,8 +4,8 @@ use Rattle.std.specs.Prelude.{◌⊎◌}
 use Rattle.std.proofs.lemmas.List.{length-append}
 use Rattle.std.proofs.Math.Seq.{take-append_seam, drop-append_seam}
 use Rattle.asn1_bits.specs.Bits.{digits, number as number_of}
-use Rattle.asn1_bits.specs.DigitLaws.{length-digits}
-use Rattle.asn1_bits.specs.NumberLaws.{number_of-digits}
+use Rattle.asn1_bits.specs.Laws.DigitLaws.{length-digits}
+use Rattle.asn1_bits.specs.Laws.NumberLaws.{number_of-digits}
 use Rattle.asn1_schema.specs.Encodings.{Fault, Encoding, Starts, CanDecode, Then, IsAt, InSequence, DecodesOne, EncodesOne, NamesFault, IsNumber, constant, invalid, then, cases, with_bits, except, number}
 
 -- two fronts of one list that are equally long are one, and so are the rests

@@ -5,7 +5,7 @@ use Rattle.std.proofs.lemmas.Nat.{pow_pos}
 use Rattle.std.specs.declared.cmp.Ordering.TheVariants.{Less, Equal, Greater}
 use Rattle.asn1_bits.specs.Bits.{number}
 use Rattle.asn1_bits.specs.BitLists.{bits_cmp}
-use Rattle.asn1_bits.specs.NumberLaws.{number-nil, number-cons, number-lt}
+use Rattle.asn1_bits.specs.Laws.NumberLaws.{number-nil, number-cons, number-lt}
 use Rattle.asn1_schema.specs.Order.{IsBefore}
 
 -- the list is no proper beginning of the other

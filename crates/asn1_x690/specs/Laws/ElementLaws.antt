@@ -4,10 +4,10 @@ use Rattle.std.specs.Prelude.{◌⊎◌}
 use Rattle.std.proofs.Math.Pow.{pow_mono}
 use Rattle.std.proofs.lemmas.List.{length-append}
 use Rattle.asn1_bits.specs.Bits.{is_odd}
-use Rattle.asn1_bits.specs.DigitLaws.{length-digits}
-use Rattle.asn1_bits.specs.NumberLaws.{worth-is_odd}
+use Rattle.asn1_bits.specs.Laws.DigitLaws.{length-digits}
+use Rattle.asn1_bits.specs.Laws.NumberLaws.{worth-is_odd}
 use Rattle.asn1_oid.specs.Contents.{base_128, IsSubidentifier, IsSeries as AreSeries}
-use Rattle.asn1_oid.specs.WritingLaws.{only_octets}
+use Rattle.asn1_oid.specs.Laws.WritingLaws.{only_octets}
 use Rattle.asn1_schema.specs.Encodings.{EncodesOne, IsNumber, constant, invalid, cases, number}
 use Rattle.asn1_schema.specs.Fields.{raw_bits}
 use Rattle.asn1_schema.specs.Laws.EncodingLaws.{IsSound, number_encodes_one}

@@ -4,10 +4,10 @@ use Rattle.std.specs.Prelude.{All, slice_get}
 use Rattle.std.proofs.lemmas.List.{length-append}
 use Rattle.std.proofs.lemmas.List.Elements.{All-nil, All-cons}
 use Rattle.asn1_bits.specs.Bits.{bits, digits, number}
-use Rattle.asn1_bits.specs.DigitLaws.{length-digits}
-use Rattle.asn1_bits.specs.NumberLaws.{same_octets, number_of-digits}
+use Rattle.asn1_bits.specs.Laws.DigitLaws.{length-digits}
+use Rattle.asn1_bits.specs.Laws.NumberLaws.{same_octets, number_of-digits}
 use Rattle.asn1_number.specs.Octets.{IsOctets}
-use Rattle.asn1_number.specs.OctetLaws.{shortest_once, equal_from_octets}
+use Rattle.asn1_number.specs.Laws.OctetLaws.{shortest_once, equal_from_octets}
 use Rattle.asn1_schema.specs.Pieces.{Piece, Absent, Enumerated, Unknown}
 use Rattle.asn1_schema.specs.Encodings.{EncodesOne, FillsOne}
 use Rattle.asn1_schema.specs.Laws.EncodingLaws.{same_fronts}

@@ -3,7 +3,7 @@ use Rattle.std.proofs.lemmas.Grind.{common_steps}
 use Rattle.std.proofs.lemmas.List.{length-take, length-drop, take_all}
 use Rattle.asn1_bits.specs.Bits.{bits, ored}
 use Rattle.asn1_bits.specs.BitStr.{bits_of}
-use Rattle.asn1_bits.specs.DigitLaws.{length-bits, bits-drop}
+use Rattle.asn1_bits.specs.Laws.DigitLaws.{length-bits, bits-drop}
 use Rattle.asn1_bits.proofs.OredLemmas.{ored-none}
 use Rattle.asn1_bits.proofs.PutLemmas.{put-left}
 use Rattle.asn1_bits.proofs.RunLemmas.{more-placed, eight-copied}

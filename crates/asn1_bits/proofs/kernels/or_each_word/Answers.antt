@@ -2,7 +2,7 @@ use Rattle.std.proofs.Common.{◌+◌, ◌*◌, ◌/◌, ◌%◌, ap, ◌∙◌,
 use Rattle.std.proofs.lemmas.List.{take_all}
 use Rattle.asn1_bits.specs.Bits.{bits, ored}
 use Rattle.asn1_bits.specs.BitStr.{bits_of}
-use Rattle.asn1_bits.specs.DigitLaws.{length-bits}
+use Rattle.asn1_bits.specs.Laws.DigitLaws.{length-bits}
 use Rattle.asn1_bits.proofs.RunLemmas.{more-placed}
 use Rattle.asn1_bits.proofs.kernels.or_each_word.Goals as goal
 

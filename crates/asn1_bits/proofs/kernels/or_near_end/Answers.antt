@@ -1,7 +1,7 @@
 use Rattle.std.proofs.Common.{Bool, List, length, ap, arith}
 use Rattle.asn1_bits.specs.Bits.{bits}
 use Rattle.asn1_bits.specs.BitStr.{bits_of}
-use Rattle.asn1_bits.specs.DigitLaws.{length-bits}
+use Rattle.asn1_bits.specs.Laws.DigitLaws.{length-bits}
 use Rattle.asn1_bits.proofs.OredLemmas.{length-ored}
 use Rattle.asn1_bits.proofs.kernels.or_near_end.Goals as goal
 

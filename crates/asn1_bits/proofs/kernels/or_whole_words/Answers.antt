@@ -2,9 +2,9 @@ use Rattle.std.proofs.Common.{◌≡◌, ℕ, ◌+◌, ◌-◌, ◌*◌, ◌/◌
 use Rattle.std.proofs.lemmas.List.{take_all, length-take}
 use Rattle.asn1_bits.specs.Bits.{bits, digits, number, ored}
 use Rattle.asn1_bits.specs.BitStr.{bits_of}
-use Rattle.asn1_bits.specs.NumberLaws.{digits_of-number}
+use Rattle.asn1_bits.specs.Laws.NumberLaws.{digits_of-number}
 use Rattle.asn1_bits.proofs.ReadWideLemmas.{read-top}
-use Rattle.asn1_bits.specs.DigitLaws.{length-bits}
+use Rattle.asn1_bits.specs.Laws.DigitLaws.{length-bits}
 use Rattle.asn1_bits.proofs.RunLemmas.{words-placed}
 use Rattle.asn1_bits.proofs.kernels.or_whole_words.Goals as goal
 

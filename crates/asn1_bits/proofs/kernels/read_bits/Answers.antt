@@ -1,7 +1,7 @@
 use Rattle.std.proofs.Common.{take, drop, arith}
 use Rattle.std.proofs.lemmas.List.{length-take}
 use Rattle.asn1_bits.specs.Bits.{bits}
-use Rattle.asn1_bits.specs.NumberLaws.{number-below}
+use Rattle.asn1_bits.specs.Laws.NumberLaws.{number-below}
 use Rattle.asn1_bits.proofs.kernels.read_bits.Goals as goal
 
 pub overflow_cast-result : goal.overflow_cast-result

@@ -1,7 +1,7 @@
 use Rattle.std.proofs.Common.{◌<◌, ℕ, ◌/◌, ◌%◌, false, replicate, sym, ap, ◌∙◌, arith}
 use Rattle.std.proofs.lemmas.List.{length-replicate}
 use Rattle.asn1_bits.specs.Bits.{digits, bits, overwritten}
-use Rattle.asn1_bits.specs.OverwrittenLaws.{overwritten-none}
+use Rattle.asn1_bits.specs.Laws.OverwrittenLaws.{overwritten-none}
 use Rattle.asn1_bits.proofs.OverwriteLemmas.{octet-cleared, octet-put}
 use Rattle.asn1_bits.proofs.overwrite.clear_within.Goals as goal
 

@@ -1,7 +1,7 @@
 use Rattle.std.proofs.Common.{Bool, List, ap, ◌∙◌, arith}
 use Rattle.asn1_bits.specs.Bits.{bits, ored}
 use Rattle.asn1_bits.specs.BitStr.{bits_of}
-use Rattle.asn1_bits.specs.DigitLaws.{length-bits}
+use Rattle.asn1_bits.specs.Laws.DigitLaws.{length-bits}
 use Rattle.asn1_bits.proofs.OverwriteLemmas.{overwritten-ored}
 use Rattle.asn1_bits.proofs.overwrite.overwrite_bitslice.Goals as goal
 

@@ -1,7 +1,7 @@
 use Rattle.std.proofs.Common.{ℕ, ◌+◌, ◌-◌, refl, sym, ap, ◌∙◌, arith}
 use Rattle.asn1_bits.specs.Bits.{digits, bits, overwritten}
-use Rattle.asn1_bits.specs.DigitLaws.{length-bits}
-use Rattle.asn1_bits.specs.OverwrittenLaws.{overwritten-none}
+use Rattle.asn1_bits.specs.Laws.DigitLaws.{length-bits}
+use Rattle.asn1_bits.specs.Laws.OverwrittenLaws.{overwritten-none}
 use Rattle.asn1_bits.proofs.OverwriteLemmas.{two-written}
 use Rattle.asn1_bits.proofs.PutLemmas.{digits-lowest}
 use Rattle.asn1_bits.proofs.overwrite.overwrite_digits.Goals as goal

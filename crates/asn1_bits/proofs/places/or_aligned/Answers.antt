@@ -4,7 +4,7 @@ use Rattle.std.proofs.lemmas.List.{length-drop, take_all}
 use Rattle.asn1_bits.specs.Bits.{bits, ored}
 use Rattle.asn1_bits.specs.BitStr.{bits_of}
 use Rattle.asn1_bits.specs.View.{View}
-use Rattle.asn1_bits.specs.DigitLaws.{length-bits, bits-drop}
+use Rattle.asn1_bits.specs.Laws.DigitLaws.{length-bits, bits-drop}
 use Rattle.asn1_bits.proofs.OredLemmas.{length-ored}
 use Rattle.asn1_bits.proofs.RunLemmas.{more-placed}
 use Rattle.asn1_bits.proofs.places.or_aligned.Goals as goal

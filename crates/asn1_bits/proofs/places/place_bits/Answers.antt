@@ -4,7 +4,7 @@ use Rattle.std.proofs.lemmas.List.{length-take, length-drop, take_all}
 use Rattle.asn1_bits.specs.Bits.{ored}
 use Rattle.asn1_bits.specs.BitStr.{view_of, bits_of}
 use Rattle.asn1_bits.specs.View.{View, list_of, part}
-use Rattle.asn1_bits.specs.ViewLaws.{list_of-part}
+use Rattle.asn1_bits.specs.Laws.ViewLaws.{list_of-part}
 use Rattle.asn1_bits.proofs.OredLemmas.{length-ored, ored-none, ored-append}
 use Rattle.asn1_bits.proofs.places.place_bits.Goals as goal
 

@@ -1,7 +1,7 @@
 use Rattle.std.proofs.Common.{ℕ, List, ◌*◌, take, drop, ap, ◌∙◌}
 use Rattle.std.proofs.lemmas.List.{drop-drop}
 use Rattle.asn1_bits.specs.Bits.{bits, number}
-use Rattle.asn1_bits.specs.DigitLaws.{bits-drop}
+use Rattle.asn1_bits.specs.Laws.DigitLaws.{bits-drop}
 use Rattle.asn1_bits.proofs.reads.read_57_near_end.Goals as goal
 
 pub returns : goal.returns

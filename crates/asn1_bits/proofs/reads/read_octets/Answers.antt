@@ -1,5 +1,5 @@
 use Rattle.std.proofs.Common.{◌-◌, ◌*◌, sym, ◌∙◌, arith}
-use Rattle.asn1_bits.specs.NumberLaws.{number-nil}
+use Rattle.asn1_bits.specs.Laws.NumberLaws.{number-nil}
 use Rattle.asn1_bits.proofs.ReadWideLemmas.{gathered-first, gathered-more, gathered-fits, read-short}
 use Rattle.asn1_bits.proofs.reads.read_octets.Goals as goal
 

@@ -1,6 +1,6 @@
 use Rattle.std.proofs.Common.{ℕ, ◌+◌, ◌-◌, ◌*◌, ◌/◌, ◌%◌, ◌∙◌, ap, sym, eqb, arith}
 use Rattle.std.proofs.lemmas.Nat.Bits.{shr_and_one}
-use Rattle.asn1_bits.specs.DigitLaws.{get_or-bits_at}
+use Rattle.asn1_bits.specs.Laws.DigitLaws.{get_or-bits_at}
 use Rattle.asn1_bits.proofs.single_bits.bit_from.Goals as goal
 
 pub returns : goal.returns

@@ -1,5 +1,5 @@
 use Rattle.std.proofs.Common.{◌<◌, ◌-◌, ◌%◌, arith}
-use Rattle.asn1_bits.specs.DigitLaws.{bits-set, or_mask_same, or_mask_other, and_mask_same, and_mask_other}
+use Rattle.asn1_bits.specs.Laws.DigitLaws.{bits-set, or_mask_same, or_mask_other, and_mask_same, and_mask_other}
 use Rattle.asn1_bits.proofs.single_bits.set_bit.Goals as goal
 use Rattle.asn1_bits.proofs.single_bits.set_bit.Goals.{then-bit, else-bit}
 

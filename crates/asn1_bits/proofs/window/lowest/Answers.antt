@@ -2,7 +2,7 @@ use Rattle.std.proofs.Common.{ℕ, ◌-◌, ap, ◌∙◌}
 use Rattle.std.specs.Prelude.{bit_and}
 use Rattle.std.proofs.lemmas.Nat.{and_mask, one_shl}
 use Rattle.asn1_bits.specs.Bits.{digits}
-use Rattle.asn1_bits.specs.ByteLaws.{digits-mod}
+use Rattle.asn1_bits.specs.Laws.ByteLaws.{digits-mod}
 use Rattle.asn1_bits.proofs.window.lowest.Goals as goal
 
 pub returns-then-width-lt64-clause-digits : goal.returns-then-width-lt64-clause-digits

@@ -1,6 +1,6 @@
 use Rattle.std.proofs.Common.{◌≡◌, ℕ, ◌+◌, ◌*◌, take, sym, refl, ap, ◌∙◌, arith}
 use Rattle.asn1_bits.specs.Bits.{bits, ored}
-use Rattle.asn1_bits.specs.DigitLaws.{length-bits}
+use Rattle.asn1_bits.specs.Laws.DigitLaws.{length-bits}
 use Rattle.asn1_bits.proofs.OredLemmas.{ored-none}
 use Rattle.asn1_bits.proofs.RunLemmas.{more-placed, bits-eight}
 use Rattle.asn1_bits.proofs.window.or_words.Goals as goal

@@ -1,6 +1,6 @@
 use Rattle.std.proofs.Common.{◌+◌, ◌-◌, ap, ◌∙◌, arith}
 use Rattle.asn1_bits.specs.Bits.{bits, ored}
-use Rattle.asn1_bits.specs.DigitLaws.{length-bits}
+use Rattle.asn1_bits.specs.Laws.DigitLaws.{length-bits}
 use Rattle.asn1_bits.proofs.PutLemmas.{placed-two, digits-lowest}
 use Rattle.asn1_bits.proofs.window.put_apart.Goals as goal
 

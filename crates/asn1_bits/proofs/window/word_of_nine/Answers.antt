@@ -1,7 +1,7 @@
 use Rattle.std.proofs.Common.{ℕ, ◌+◌, ◌*◌, ◌%◌, ◌^◌, ◌++◌, get_or, take, drop, sym, ap, ◌∙◌, arith}
 use Rattle.std.proofs.lemmas.List.{drop-drop}
 use Rattle.asn1_bits.specs.Bits.{bits, digits}
-use Rattle.asn1_bits.specs.DigitLaws.{length-drop_bits}
+use Rattle.asn1_bits.specs.Laws.DigitLaws.{length-drop_bits}
 use Rattle.asn1_bits.proofs.ReadWideLemmas.{nine-digits, eight-later}
 use Rattle.asn1_bits.proofs.WindowLemmas.{bits-octet}
 use Rattle.asn1_bits.proofs.window.word_of_nine.Goals as goal

@@ -1,7 +1,7 @@
 use Rattle.std.proofs.Common.{rules, ◌∙◌, length, refl, ap, arith}
 use Rattle.std.proofs.lemmas.List.{length-take}
-use Rattle.asn1_oid.specs.ReadingLaws.{contents_read, arcs_from_reading, one_list_of_arcs}
-use Rattle.asn1_oid.specs.WritingLaws.{contents_octets}
+use Rattle.asn1_oid.specs.Laws.ReadingLaws.{contents_read, arcs_from_reading, one_list_of_arcs}
+use Rattle.asn1_oid.specs.Laws.WritingLaws.{contents_octets}
 use Rattle.asn1_c.proofs.identifiers.asn1v_oid_arcs.Goals as goal
 
 pub write_arcs-requires : goal.write_arcs-requires

@@ -1,6 +1,6 @@
 use Rattle.std.proofs.Common.{◌∙◌, ℤ, length, subst, ap, arith}
 use Rattle.asn1_number.specs.Octets.{IsShortest}
-use Rattle.asn1_number.specs.OctetLaws.{shortest_once}
+use Rattle.asn1_number.specs.Laws.OctetLaws.{shortest_once}
 use Rattle.asn1_c.proofs.IntegerFieldLemmas.{sixteen_at_most, word_back, bits_of_shortest}
 use Rattle.asn1_c.proofs.integer_fields.shortest_word.Goals as goal
 

@@ -2,7 +2,7 @@ use Rattle.std.proofs.Common.{◌≡◌, ◌∙◌, to_z, of_z, rules, ℤ, pos,
 use Rattle.std.specs.Int.{w128}
 use Rattle.asn1_number.specs.Octets.{IsShortest}
 use Rattle.asn1_number.specs.Shortest.{shortest_octets}
-use Rattle.asn1_number.specs.ShortestLaws.{shortest_octets_are}
+use Rattle.asn1_number.specs.Laws.ShortestLaws.{shortest_octets_are}
 use Rattle.asn1_c.specs.Text.{IsWide}
 use Rattle.asn1_c.proofs.DecimalTextLemmas.{one_value, wide_text, octets_of_text, not_wide}
 use Rattle.asn1_c.proofs.integer_text.asn1v_integer_from_text.Goals as goal

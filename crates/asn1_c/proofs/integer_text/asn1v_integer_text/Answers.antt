@@ -2,7 +2,7 @@ use Rattle.std.proofs.Common.{◌≡◌, ◌∙◌, ⊎_elim, ap, sym, subst, re
 use Rattle.std.proofs.lemmas.List.{length-take-le}
 use Rattle.std.specs.Int.{w128}
 use Rattle.asn1_number.specs.Octets.{IsOctets, IsShortest, signed}
-use Rattle.asn1_number.specs.OctetLaws.{shortest_once}
+use Rattle.asn1_number.specs.Laws.OctetLaws.{shortest_once}
 use Rattle.asn1_number.specs.Readings.{IsInRange, kind_u128}
 use Rattle.asn1_c.specs.Text.{IsWide, IsDecimalText}
 use Rattle.asn1_c.proofs.WideLemmas.{past_i128}

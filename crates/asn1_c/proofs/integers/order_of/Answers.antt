@@ -1,5 +1,5 @@
 use Rattle.std.proofs.Common.{◌∙◌}
-use Rattle.asn1_number.specs.OctetOrderLaws.{shortest_order}
+use Rattle.asn1_number.specs.Laws.OctetOrderLaws.{shortest_order}
 use Rattle.asn1_c.proofs.integers.order_of.Goals as goal
 
 pub returns : goal.returns

@@ -1,7 +1,7 @@
 use Rattle.std.proofs.Common.{◌≡◌, ◌++◌, length, take, drop, ap, sym, subst, ◌∙◌, arith}
 use Rattle.std.proofs.lemmas.List.{take_at, drop_at}
 use Rattle.asn1_oid.specs.DottedText.{IsDottedText}
-use Rattle.asn1_oid.specs.DottedLaws.{one_text}
+use Rattle.asn1_oid.specs.Laws.DottedLaws.{one_text}
 use Rattle.asn1_c.proofs.text.asn1v_oid_from_text.Goals as goal
 
 pub returns-then-found-room-clause-count : goal.returns-then-found-room-clause-count

@@ -1,6 +1,6 @@
 use Rattle.std.proofs.Common.{rules, arith, ◌≡◌, ◌-◌, length, drop, take, get_or, refl}
 use Rattle.std.proofs.lemmas.Grind.{common_steps}
-use Rattle.asn1_number.specs.ReadingLaws.{spells_u128}
+use Rattle.asn1_number.specs.Laws.ReadingLaws.{spells_u128}
 use Rattle.asn1_c.proofs.WideLemmas.{no_u128}
 use Rattle.asn1_c.proofs.wide_integers.u128_of.Goals as goal
 

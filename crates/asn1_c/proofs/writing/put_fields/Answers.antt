@@ -1,8 +1,8 @@
 use Rattle.std.proofs.Common.{◌≤◌, ◌++◌, ◌∙◌, [], refl, sym, length, get_or, arith}
 use Rattle.std.proofs.lemmas.List.{length-append}
 use Rattle.asn1_bits.specs.Bits.{bits}
-use Rattle.asn1_bits.specs.DigitLaws.{length-bits}
-use Rattle.asn1_bits.specs.OverwrittenLaws.{overwritten-none}
+use Rattle.asn1_bits.specs.Laws.DigitLaws.{length-bits}
+use Rattle.asn1_bits.specs.Laws.OverwrittenLaws.{overwritten-none}
 use Rattle.asn1_c.specs.Writing.{planned}
 use Rattle.asn1_c.proofs.WritingLemmas.{no_shape, no_field, named_more, named_all, named_at, front_fits, put_more, as_many, unnamed_wrong}
 use Rattle.asn1_c.proofs.writing.put_fields.Goals as goal

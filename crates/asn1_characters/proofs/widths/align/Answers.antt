@@ -1,5 +1,5 @@
 use Rattle.std.proofs.Common.{arith}
-use Rattle.asn1_characters.specs.WidthLaws.{few_codes}
+use Rattle.asn1_characters.specs.Laws.WidthLaws.{few_codes}
 use Rattle.asn1_characters.proofs.widths.align.Goals as goal
 
 pub overflow_cast-result : goal.overflow_cast-result

@@ -1,5 +1,5 @@
 use Rattle.std.proofs.Common.{sym, arith}
-use Rattle.asn1_characters.specs.WidthLaws.{ceil_log2_is}
+use Rattle.asn1_characters.specs.Laws.WidthLaws.{ceil_log2_is}
 use Rattle.asn1_characters.proofs.WidthLemmas.{digits_are_least, none_is_least}
 use Rattle.asn1_characters.proofs.widths.ceil_log2.Goals as goal
 

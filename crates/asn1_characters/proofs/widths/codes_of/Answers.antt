@@ -1,4 +1,4 @@
-use Rattle.asn1_characters.specs.WidthLaws.{codes_small}
+use Rattle.asn1_characters.specs.Laws.WidthLaws.{codes_small}
 use Rattle.asn1_characters.proofs.widths.codes_of.Goals as goal
 
 pub returns : goal.returns

@@ -1,7 +1,7 @@
 use Rattle.std.proofs.Common.{sym, ap, ◌∙◌}
 use Rattle.asn1_bits.specs.Octets.{octets_in}
 use Rattle.asn1_number.specs.Octets.{signed}
-use Rattle.asn1_bits.specs.NumberLaws.{same_octets}
+use Rattle.asn1_bits.specs.Laws.NumberLaws.{same_octets}
 use Rattle.asn1_integer.proofs.read_integer.read_long.Goals as goal
 
 pub returns : goal.returns

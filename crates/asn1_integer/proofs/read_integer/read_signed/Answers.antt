@@ -1,6 +1,6 @@
 use Rattle.asn1_bits.specs.BitReader.{bits_left}
 use Rattle.std.proofs.Common.{arith}
-use Rattle.asn1_integer.specs.WordLaws.{word_value}
+use Rattle.asn1_integer.specs.Laws.WordLaws.{word_value}
 use Rattle.asn1_integer.proofs.read_integer.read_signed.Goals as goal
 
 pub returns-then-width-le128-clause-value : goal.returns-then-width-le128-clause-value

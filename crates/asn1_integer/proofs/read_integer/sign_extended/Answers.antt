@@ -2,7 +2,7 @@ use Rattle.std.proofs.Common.{rules, ◌≡◌, ◌-◌, ◌^◌, ℕ, ℤ, pos,
 use Rattle.std.specs.Int.{w128}
 use mir.Val.{SFits, of_z, to_z}
 use Rattle.std.proofs.lemmas.Int.{to_z_pos, ints}
-use Rattle.asn1_integer.specs.WordLaws.{twice}
+use Rattle.asn1_integer.specs.Laws.WordLaws.{twice}
 use Rattle.asn1_integer.proofs.NativeLemmas.{half_within}
 use Rattle.asn1_integer.proofs.read_integer.sign_extended.Goals as goal
 

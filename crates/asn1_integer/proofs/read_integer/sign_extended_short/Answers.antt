@@ -3,7 +3,7 @@ use Rattle.std.specs.Int.{w64}
 use mir.Val.{SFits, of_z, to_z}
 use Rattle.std.proofs.lemmas.Nat.{one_shl}
 use Rattle.std.proofs.lemmas.Int.{to_z_pos, ints}
-use Rattle.asn1_integer.specs.WordLaws.{twice}
+use Rattle.asn1_integer.specs.Laws.WordLaws.{twice}
 use Rattle.asn1_integer.proofs.NativeLemmas.{half_within}
 use Rattle.asn1_integer.proofs.read_integer.sign_extended_short.Goals as goal
 

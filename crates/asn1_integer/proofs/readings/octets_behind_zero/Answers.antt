@@ -2,9 +2,9 @@ use Rattle.std.proofs.Common.{rules, arith, ◌≡◌, ◌<◌, ◌≤◌, ◌^�
 use Rattle.std.proofs.lemmas.Bool.{cases_lt}
 use Rattle.std.specs.Int.{bytes_high_first}
 use Rattle.asn1_number.specs.Octets.{IsOctets, IsShortest, unsigned}
-use Rattle.asn1_number.specs.OctetLaws.{low_parts, signed_range}
-use Rattle.asn1_number.specs.WidthLaws.{length-bytes, octets_of_bytes, unsigned-bytes}
-use Rattle.asn1_number.specs.ReadingLaws.{zero_in_front}
+use Rattle.asn1_number.specs.Laws.OctetLaws.{low_parts, signed_range}
+use Rattle.asn1_number.specs.Laws.WidthLaws.{length-bytes, octets_of_bytes, unsigned-bytes}
+use Rattle.asn1_number.specs.Laws.ReadingLaws.{zero_in_front}
 use Rattle.asn1_integer.proofs.readings.octets_behind_zero.Goals as goal
 
 -- the first of sixteen octets of a number from 2^127 on is 128 or more

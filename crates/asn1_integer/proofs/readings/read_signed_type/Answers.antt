@@ -2,7 +2,7 @@ use Rattle.std.proofs.Common.{rules, arith, ◌≡◌, ◌<◌, length, of_z}
 use Rattle.std.specs.Int.{w128}
 use Rattle.asn1_number.specs.Octets.{signed}
 use Rattle.asn1_number.specs.Readings.{SignedOf}
-use Rattle.asn1_number.specs.OctetLaws.{octets_from_places}
+use Rattle.asn1_number.specs.Laws.OctetLaws.{octets_from_places}
 use Rattle.asn1_integer.proofs.ReadingLemmas.{reading_empty, signed_too_long_at, signed_is_read_at, signed_in_range}
 use Rattle.asn1_integer.proofs.readings.read_signed_type.Goals as goal
 

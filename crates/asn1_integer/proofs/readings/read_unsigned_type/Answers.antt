@@ -1,7 +1,7 @@
 use Rattle.std.proofs.Common.{rules, arith, ◌<◌, ◌≤◌, length, subst, ◌∙◌, pos}
 use Rattle.asn1_number.specs.Octets.{unsigned}
 use Rattle.asn1_number.specs.Readings.{UnsignedOf, counted_length}
-use Rattle.asn1_number.specs.OctetLaws.{octets_from_places}
+use Rattle.asn1_number.specs.Laws.OctetLaws.{octets_from_places}
 use Rattle.asn1_integer.proofs.ReadingLemmas.{reading_empty, unsigned_below_zero_at, unsigned_too_long_at, unsigned_is_read_at, counted_in_range}
 use Rattle.asn1_integer.proofs.readings.read_unsigned_type.Goals as goal
 

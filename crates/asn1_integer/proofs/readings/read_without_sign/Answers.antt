@@ -1,5 +1,5 @@
 use Rattle.std.proofs.Common.{rules, arith}
-use Rattle.asn1_number.specs.OctetLaws.{octets_from_places}
+use Rattle.asn1_number.specs.Laws.OctetLaws.{octets_from_places}
 use Rattle.asn1_integer.proofs.UnsignedLemmas.{empty_unread, too_long_unread, read_without_sign, read_below_half, unread_above_half}
 use Rattle.asn1_integer.proofs.readings.read_without_sign.Goals as goal
 

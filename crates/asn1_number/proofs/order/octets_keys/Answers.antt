@@ -2,8 +2,8 @@ use Rattle.std.proofs.Common.{arith, ◌≡◌, take, sym, ap, ◌∙◌}
 use Rattle.std.specs.Int.{cast_signed, w64}
 use Rattle.std.specs.Ordering.{int_cmp}
 use Rattle.asn1_number.specs.Octets.{signed}
-use Rattle.asn1_number.specs.OctetLaws.{nine_bits_from_shortest}
-use Rattle.asn1_number.specs.OctetOrderLaws.{octets_order}
+use Rattle.asn1_number.specs.Laws.OctetLaws.{nine_bits_from_shortest}
+use Rattle.asn1_number.specs.Laws.OctetOrderLaws.{octets_order}
 use Rattle.asn1_number.proofs.WordLemmas.{order_by_first, biased_order, same_word}
 use Rattle.asn1_number.proofs.order.octets_keys.Goals as goal
 

@@ -2,7 +2,7 @@ use Rattle.std.proofs.Common.{arith, ◌≡◌, take, drop, sym, ap, ◌∙◌}
 use Rattle.std.specs.Int.{cast_signed, w64}
 use Rattle.std.specs.Ordering.{int_cmp, nat_cmp}
 use Rattle.asn1_number.specs.Octets.{signed, unsigned}
-use Rattle.asn1_number.specs.OctetLaws.{octets_from_places}
+use Rattle.asn1_number.specs.Laws.OctetLaws.{octets_from_places}
 use Rattle.asn1_number.proofs.WordLemmas.{order_by_first, order_by_last, biased_order, same_word}
 use Rattle.asn1_number.proofs.order.sixteen_keys.Goals as goal
 

@@ -1,5 +1,5 @@
 use Rattle.std.proofs.Common.{rules, arith, ℕ, ◌<◌, ◌+◌, ◌%◌, get_or, ap, ⊎_elim}
-use Rattle.asn1_number.specs.OctetLaws.{octets_from_places, nine_bits_by_places, shortest_from_nine_bits}
+use Rattle.asn1_number.specs.Laws.OctetLaws.{octets_from_places, nine_bits_by_places, shortest_from_nine_bits}
 use Rattle.asn1_number.proofs.sign_octets.is_shortest_at_once.Goals as goal
 
 pub returns-else-octets-eq1 : goal.returns-else-octets-eq1

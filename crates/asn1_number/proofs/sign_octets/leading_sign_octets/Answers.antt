@@ -1,5 +1,5 @@
 use Rattle.std.proofs.Common.{rules, arith, ◌≡◌, ◌≤◌, length, get_or, refl}
-use Rattle.asn1_number.specs.OctetLaws.{unsigned_after_zero, unsigned_as_it_is}
+use Rattle.asn1_number.specs.Laws.OctetLaws.{unsigned_after_zero, unsigned_as_it_is}
 use Rattle.asn1_number.proofs.sign_octets.leading_sign_octets.Goals as goal
 
 pub returns-in-0-clause-shortest : goal.returns-in-0-clause-shortest

@@ -1,7 +1,7 @@
 use Rattle.std.proofs.Common.{arith, rules, ◌≡◌, ◌≤◌, ◌-◌, length, drop, take, sym, ◌∙◌}
 use Rattle.std.proofs.lemmas.Bool.{false≢true}
 use Rattle.std.proofs.lemmas.Grind.{common_steps}
-use Rattle.asn1_number.specs.OctetLaws.{next_keeps, end_is_shortest}
+use Rattle.asn1_number.specs.Laws.OctetLaws.{next_keeps, end_is_shortest}
 use Rattle.asn1_number.proofs.sign_octets.without_redundant_sign_octets.Goals as goal
 
 pub loop-rest-preserved : goal.loop-rest-preserved

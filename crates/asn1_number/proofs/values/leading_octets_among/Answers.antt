@@ -1,6 +1,6 @@
 use Rattle.std.proofs.Common.{rules, arith, length, ap}
 use Rattle.asn1_number.specs.Octets.{signed}
-use Rattle.asn1_number.specs.ShortestLaws.{shortest_octets_only}
+use Rattle.asn1_number.specs.Laws.ShortestLaws.{shortest_octets_only}
 use Rattle.asn1_number.proofs.values.leading_octets_among.Goals as goal
 
 pub returns-then-is_shortest_at_once : goal.returns-then-is_shortest_at_once

@@ -1,7 +1,7 @@
 use Rattle.std.proofs.Common.{sym, ap, subst, ◌∙◌, to_z-of_z}
 use Rattle.asn1_number.specs.Octets.{IsShortest}
 use Rattle.asn1_number.specs.Shortest.{shortest_octets}
-use Rattle.asn1_number.specs.ShortestLaws.{shortest_octets_are}
+use Rattle.asn1_number.specs.Laws.ShortestLaws.{shortest_octets_are}
 use Rattle.asn1_number.proofs.values.shortest_of.Goals as goal
 
 pub returns : goal.returns

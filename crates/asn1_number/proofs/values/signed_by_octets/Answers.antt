@@ -1,7 +1,7 @@
 use Rattle.std.proofs.Common.{rules, arith, ◌≡◌, ◌+◌, ◌-◌, ◌<◌, length, drop, take, get_or}
 use Rattle.std.proofs.lemmas.Grind.{common_steps}
-use Rattle.asn1_number.specs.OctetLaws.{octets_from_places}
-use Rattle.asn1_number.specs.WidthLaws.{first_value, more_value, room_for_more}
+use Rattle.asn1_number.specs.Laws.OctetLaws.{octets_from_places}
+use Rattle.asn1_number.specs.Laws.WidthLaws.{first_value, more_value, room_for_more}
 use Rattle.asn1_number.proofs.values.signed_by_octets.Goals as goal
 
 pub loop-octet-init : goal.loop-octet-init

@@ -2,8 +2,8 @@ use Rattle.std.proofs.Common.{rules, arith, ◌≡◌, ℕ, length, take, sym, a
 use Rattle.std.proofs.Math.Seq.{take-length}
 use Rattle.std.specs.Int.{w64}
 use Rattle.asn1_number.specs.Octets.{signed}
-use Rattle.asn1_number.specs.OctetLaws.{octets_from_places}
-use Rattle.asn1_number.specs.WidthLaws.{first_value, more_value}
+use Rattle.asn1_number.specs.Laws.OctetLaws.{octets_from_places}
+use Rattle.asn1_number.specs.Laws.WidthLaws.{first_value, more_value}
 use Rattle.asn1_number.proofs.WordLemmas.{two_fit}
 use Rattle.asn1_number.proofs.values.signed_of_two.Goals as goal
 

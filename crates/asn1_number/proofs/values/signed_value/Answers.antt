@@ -2,8 +2,8 @@ use Rattle.std.proofs.Common.{rules, arith, ◌≡◌, ℕ, ℤ, pos, List, ◌-
 use Rattle.std.proofs.lemmas.List.{length-drop, take-append-drop}
 use Rattle.std.specs.Int.{w128}
 use Rattle.asn1_number.specs.Octets.{unsigned, signed}
-use Rattle.asn1_number.specs.OctetLaws.{octets_from_places, octets-drop}
-use Rattle.asn1_number.specs.WidthLaws.{octets-take, sixteen_fit}
+use Rattle.asn1_number.specs.Laws.OctetLaws.{octets_from_places, octets-drop}
+use Rattle.asn1_number.specs.Laws.WidthLaws.{octets-take, sixteen_fit}
 use Rattle.asn1_number.proofs.WordLemmas.{signed-eight_more, word_times_fits}
 use Rattle.asn1_number.proofs.values.signed_value.Goals as goal
 

@@ -4,7 +4,7 @@ use Rattle.std.specs.Int.Count.{count_leading_zeros}
 use lib.Signed.{mag}
 use borrow.Author.Differences.{mag_is}
 use Rattle.asn1_number.specs.Shortest.{shortest_octets}
-use Rattle.asn1_number.specs.OctetLaws.{one_part}
+use Rattle.asn1_number.specs.Laws.OctetLaws.{one_part}
 use Rattle.asn1_number.proofs.SpellingLemmas.{spare_octets}
 use Rattle.asn1_number.proofs.values.spare_of_eight.Goals.{then-number-lt0, else-number-lt0}
 use Rattle.asn1_number.proofs.values.spare_of_eight.Goals as goal

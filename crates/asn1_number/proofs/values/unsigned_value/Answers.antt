@@ -1,7 +1,7 @@
 use Rattle.std.proofs.Common.{rules, arith, ◌≡◌, ◌+◌, ◌*◌, sym, ap, ◌∙◌, get_or, take}
 use Rattle.asn1_number.specs.Octets.{unsigned}
-use Rattle.asn1_number.specs.OctetLaws.{unsigned_nil}
-use Rattle.asn1_number.specs.WidthLaws.{unsigned_more, unsigned_room}
+use Rattle.asn1_number.specs.Laws.OctetLaws.{unsigned_nil}
+use Rattle.asn1_number.specs.Laws.WidthLaws.{unsigned_more, unsigned_room}
 use Rattle.asn1_number.proofs.values.unsigned_value.Goals as goal
 
 pub loop-octet-init : goal.loop-octet-init

@@ -1,7 +1,7 @@
 use Rattle.std.proofs.Common.{arith, ◌≡◌, ℕ, ◌*◌, ◌+◌, ◌^◌, take, drop, ap, ◌∙◌}
 use Rattle.std.specs.Int.{cast_signed, w128}
 use Rattle.asn1_number.specs.Octets.{unsigned}
-use Rattle.asn1_number.specs.OctetLaws.{octets_from_places}
+use Rattle.asn1_number.specs.Laws.OctetLaws.{octets_from_places}
 use Rattle.asn1_number.proofs.WordLemmas.{sixteen_by_halves}
 use Rattle.asn1_number.proofs.values.words_of_octets.Goals as goal
 

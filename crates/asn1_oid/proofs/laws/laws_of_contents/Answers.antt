@@ -1,5 +1,5 @@
-use Rattle.asn1_oid.specs.ReadingLaws.{one_list_of_arcs}
-use Rattle.asn1_oid.specs.WritingLaws.{one_contents}
+use Rattle.asn1_oid.specs.Laws.ReadingLaws.{one_list_of_arcs}
+use Rattle.asn1_oid.specs.Laws.WritingLaws.{one_contents}
 use Rattle.asn1_oid.proofs.laws.laws_of_contents.Goals as goal
 
 pub returns-clause-one_contents : goal.returns-clause-one_contents

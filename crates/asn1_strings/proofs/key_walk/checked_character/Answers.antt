@@ -1,6 +1,6 @@
 use Rattle.std.proofs.Common.{◌≡◌, true}
 use Rattle.asn1_characters.specs.Sets.{base_set, has_character}
-use Rattle.asn1_characters.specs.SetLaws.{has_in_base}
+use Rattle.asn1_characters.specs.Laws.SetLaws.{has_in_base}
 use Rattle.asn1_characters.specs.declared.character_set.CharacterSetName.{CharacterSetName}
 use Rattle.asn1_characters.specs.declared.character_set.CharacterSetName.TheVariants.{Bmp, General, Graphic, IA5, Numeric, Printable, Teletex, Visible}
 use Rattle.asn1_strings.proofs.key_walk.checked_character.Goals as goal

@@ -4,7 +4,7 @@ use Rattle.std.proofs.lemmas.Nat.{div-add-mod'}
 use Rattle.asn1_bits.specs.BitStr.{bits_of}
 use Rattle.asn1_bits.specs.Bits.{number}
 use Rattle.asn1_strings.specs.Pieces.{pieces}
-use Rattle.asn1_strings.specs.PieceLaws.{piece_within}
+use Rattle.asn1_strings.specs.Laws.PieceLaws.{piece_within}
 use Rattle.asn1_strings.proofs.KeyLemmas.{both_held}
 use Rattle.asn1_strings.proofs.PieceLemmas.{length-numbers}
 use Rattle.asn1_strings.proofs.key_walk.decode_units.Goals as goal

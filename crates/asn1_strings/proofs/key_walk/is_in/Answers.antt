@@ -2,8 +2,8 @@ use Rattle.std.proofs.Common.{rules, ◌≡◌, ◌<◌, ℕ, Bool, true, false,
 use Rattle.std.specs.Prelude.{◌≢◌}
 use Rattle.std.proofs.lemmas.Bool.Decides.{nat_tests}
 use Rattle.asn1_characters.specs.Sets.{base_set, has_character}
-use Rattle.asn1_characters.specs.SetLaws.{has_in_base, not_above}
-use Rattle.asn1_characters.specs.TableLaws.{largest_small}
+use Rattle.asn1_characters.specs.Laws.SetLaws.{has_in_base, not_above}
+use Rattle.asn1_characters.specs.Laws.TableLaws.{largest_small}
 use Rattle.asn1_characters.specs.declared.character_set.CharacterSetName.{CharacterSetName}
 use Rattle.asn1_characters.specs.declared.character_set.CharacterSetName.TheVariants.{Bmp}
 use Rattle.asn1_strings.proofs.key_walk.is_in.Goals as goal

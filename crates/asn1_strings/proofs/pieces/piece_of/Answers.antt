@@ -1,5 +1,5 @@
 use Rattle.std.proofs.Common.{length, arith}
-use Rattle.asn1_strings.specs.PieceLaws.{piece_within}
+use Rattle.asn1_strings.specs.Laws.PieceLaws.{piece_within}
 use Rattle.asn1_strings.proofs.pieces.piece_of.Goals as goal
 
 pub overflow_mul-from : goal.overflow_mul-from

@@ -1,7 +1,7 @@
 -- Answers for the decoders of src/additions.rt.
 use Rattle.std.proofs.Common.{◌+◌, [], ◌∷◌, ◌++◌, refl, sym, arith}
 use Rattle.asn1_bits.specs.Bits.{bits}
-use Rattle.asn1_bits.specs.DigitLaws.{length-bits}
+use Rattle.asn1_bits.specs.Laws.DigitLaws.{length-bits}
 use Rattle.asn1_schema.specs.Pieces.{Absent, Additions}
 use Rattle.asn1_x690_fields.specs.declared.state.State.{State}
 use Rattle.asn1_x690_fields.specs.Outcomes.{rest, fault_of}

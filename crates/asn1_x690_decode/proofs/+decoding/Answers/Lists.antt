@@ -3,7 +3,7 @@ use Rattle.std.proofs.Common.{◌≡◌, ℕ, ◌+◌, ◌-◌, ◌<◌, List, [
 use Rattle.std.specs.declared.cmp.Ordering.TheVariants.{Less}
 use Rattle.asn1_bits.specs.Bits.{bits}
 use Rattle.asn1_bits.specs.BitLists.{bits_cmp}
-use Rattle.asn1_bits.specs.DigitLaws.{length-bits}
+use Rattle.asn1_bits.specs.Laws.DigitLaws.{length-bits}
 use Rattle.asn1_schema.specs.Pieces.{Count}
 use Rattle.asn1_schema.specs.PiecesOfParts.{bits_at}
 use Rattle.asn1_x690.specs.declared.fault.FaultKind.TheVariants.{Extra, NotAscending}

@@ -1,7 +1,7 @@
 -- Answers for the decoders of src/sequence.rt.
 use Rattle.std.proofs.Common.{◌≡◌, ◌+◌, List, [], ◌∷◌, Bool, true, false, length, refl, sym, ◌∙◌, ap, subst, arith, inr, Some}
 use Rattle.asn1_bits.specs.Bits.{bits}
-use Rattle.asn1_bits.specs.DigitLaws.{length-bits}
+use Rattle.asn1_bits.specs.Laws.DigitLaws.{length-bits}
 use Rattle.asn1_schema.specs.Pieces.{Absent, Sequence}
 use Rattle.asn1_x690.specs.declared.fault.FaultKind.TheVariants.{Extra, DefaultValue}
 use Rattle.asn1_x690_fields.specs.declared.state.State.{State}

@@ -1,6 +1,6 @@
 use Rattle.std.proofs.Common.{◌*◌, length, true, false, refl, sym, arith}
 use Rattle.asn1_bits.specs.Bits.{bits}
-use Rattle.asn1_bits.specs.DigitLaws.{length-bits}
+use Rattle.asn1_bits.specs.Laws.DigitLaws.{length-bits}
 use Rattle.asn1_x690.specs.declared.fault.FaultKind.TheVariants.{Short}
 use Rattle.asn1_x690_fields.specs.declared.state.State.{State}
 use Rattle.asn1_x690_elements.specs.Elements.{levels}

@@ -1,4 +1,4 @@
-use Rattle.asn1_x690_elements.specs.ElementLaws.{levels_are_sound}
+use Rattle.asn1_x690_elements.specs.Laws.ElementLaws.{levels_are_sound}
 use Rattle.asn1_x690_elements.proofs.laws.laws_of_elements.Goals as goal
 
 pub returns-clause-fills_one : goal.returns-clause-fills_one

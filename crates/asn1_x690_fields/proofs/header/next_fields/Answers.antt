@@ -1,6 +1,6 @@
 use Rattle.std.proofs.Common.{◌*◌, length, arith}
 use Rattle.asn1_bits.specs.Bits.{bits}
-use Rattle.asn1_bits.specs.DigitLaws.{length-bits}
+use Rattle.asn1_bits.specs.Laws.DigitLaws.{length-bits}
 use Rattle.asn1_x690_fields.proofs.HeaderSteps.{header_fault, header_read}
 use Rattle.asn1_x690_fields.proofs.header.next_fields.Goals as goal
 

@@ -1,6 +1,6 @@
 use Rattle.std.proofs.Common.{◌+◌, ◌*◌, ◌≤◌, ◌<◌, ◌%◌, take, drop, length, arith}
 use Rattle.asn1_bits.specs.Bits.{bits}
-use Rattle.asn1_bits.specs.DigitLaws.{length-bits}
+use Rattle.asn1_bits.specs.Laws.DigitLaws.{length-bits}
 use Rattle.asn1_x690.specs.Elements.{identifier_of}
 use Rattle.asn1_x690_fields.specs.Outcomes.{rest}
 use Rattle.asn1_x690_fields.specs.Steps.{number_starts}

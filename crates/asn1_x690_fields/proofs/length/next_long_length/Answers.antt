@@ -1,6 +1,6 @@
 use Rattle.std.proofs.Common.{◌≡◌, ◌+◌, ◌*◌, ◌≤◌, length, take, drop, arith, inl, inr, sym}
 use Rattle.asn1_bits.specs.Bits.{bits}
-use Rattle.asn1_bits.specs.DigitLaws.{length-bits}
+use Rattle.asn1_bits.specs.Laws.DigitLaws.{length-bits}
 use Rattle.asn1_x690.specs.declared.fault.FaultKind.TheVariants.{NotMinimal}
 use Rattle.asn1_x690_fields.specs.Outcomes.{fault_of, rest}
 use Rattle.asn1_x690_fields.specs.Steps.{fault_at}

@@ -1,6 +1,6 @@
 use Rattle.std.proofs.Common.{ℕ, ◌+◌, ◌-◌, take, drop, sym, ◌∙◌, ap, subst, arith}
 use Rattle.asn1_bits.specs.Bits.{bits, number}
-use Rattle.asn1_bits.specs.DigitLaws.{length-bits}
+use Rattle.asn1_bits.specs.Laws.DigitLaws.{length-bits}
 use Rattle.asn1_schema.specs.PiecesOfParts.{bits_at, bits_of}
 use Rattle.asn1_x690.specs.Leaves.{IsBitString}
 use Rattle.asn1_x690_leaves.proofs.BitStringSteps.{string_size, unused_is, are_bits, zeros_are}

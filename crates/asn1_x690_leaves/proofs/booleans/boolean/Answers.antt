@@ -1,6 +1,6 @@
 use Rattle.std.proofs.Common.{refl, ◌∙◌, inl, arith}
 use Rattle.asn1_bits.specs.Bits.{bits}
-use Rattle.asn1_bits.specs.DigitLaws.{length-bits}
+use Rattle.asn1_bits.specs.Laws.DigitLaws.{length-bits}
 use Rattle.asn1_x690_leaves.proofs.SpanSteps.{truth_size, truth_is, no_truth}
 use Rattle.asn1_x690_leaves.proofs.booleans.boolean.Goals as goal
 

@@ -1,6 +1,6 @@
 use Rattle.std.proofs.Common.{arith}
 use Rattle.asn1_bits.specs.Bits.{bits}
-use Rattle.asn1_bits.specs.DigitLaws.{length-bits}
+use Rattle.asn1_bits.specs.Laws.DigitLaws.{length-bits}
 use Rattle.asn1_schema.specs.PiecesOfParts.{bits_of, signed_number}
 use Rattle.asn1_x691_fields.specs.SignedSteps.{far}
 use Rattle.asn1_x690_leaves.proofs.enumerations.value_of.Goals as goal

@@ -1,5 +1,5 @@
 use Rattle.std.proofs.Common.{arith}
-use Rattle.asn1_bits.specs.DigitLaws.{length-bits}
+use Rattle.asn1_bits.specs.Laws.DigitLaws.{length-bits}
 use Rattle.asn1_x690_leaves.proofs.identifiers.are_between_octets.Goals as goal
 
 pub are_subidentifiers-requires-clause-inside : goal.are_subidentifiers-requires-clause-inside

@@ -1,5 +1,5 @@
 use Rattle.std.proofs.Common.{refl, inl, arith}
-use Rattle.asn1_bits.specs.DigitLaws.{length-bits}
+use Rattle.asn1_bits.specs.Laws.DigitLaws.{length-bits}
 use Rattle.asn1_x690_leaves.proofs.integers.integer_between.Goals as goal
 
 pub returns-then-not-is_minimal : goal.returns-then-not-is_minimal

@@ -1,7 +1,7 @@
 use Rattle.std.proofs.Common.{sym, ◌∙◌, arith}
 use Rattle.std.proofs.lemmas.Bool.Decides.{nat_tests}
 use Rattle.asn1_bits.specs.Bits.{bits}
-use Rattle.asn1_bits.specs.DigitLaws.{length-bits}
+use Rattle.asn1_bits.specs.Laws.DigitLaws.{length-bits}
 use Rattle.asn1_x690_leaves.proofs.IntegerSteps.{no_octet, one_octet, minimal, not_zero, not_ones, is_far}
 use Rattle.asn1_x690_leaves.proofs.integers.is_minimal.Goals as goal
 

@@ -1,5 +1,5 @@
 use Rattle.std.proofs.Common.{arith}
-use Rattle.asn1_bits.specs.DigitLaws.{length-bits}
+use Rattle.asn1_bits.specs.Laws.DigitLaws.{length-bits}
 use Rattle.asn1_x690_leaves.proofs.integers.part_of.Goals as goal
 
 pub signed_at-requires-clause-inside : goal.signed_at-requires-clause-inside

@@ -2,7 +2,7 @@ use Rattle.std.proofs.Common.{ℕ, ◌/◌, ◌%◌, ◌*◌, length, drop, refl
 use Rattle.std.proofs.lemmas.List.{map-id}
 use Rattle.std.proofs.Math.Nat.{mul-mod_right}
 use Rattle.asn1_bits.specs.Bits.{bits}
-use Rattle.asn1_bits.specs.DigitLaws.{length-bits}
+use Rattle.asn1_bits.specs.Laws.DigitLaws.{length-bits}
 use Rattle.asn1_schema.specs.CharactersOfParts.{numbers_in}
 use Rattle.asn1_schema.specs.Pieces.{Text}
 use Rattle.asn1_schema.specs.PiecesOfParts.{bits_of}

@@ -1,6 +1,6 @@
 use Rattle.std.proofs.Common.{arith}
 use Rattle.asn1_bits.specs.Bits.{digits}
-use Rattle.asn1_bits.specs.DigitLaws.{length-digits}
+use Rattle.asn1_bits.specs.Laws.DigitLaws.{length-digits}
 use Rattle.asn1_x690_writers.specs.HeaderSteps.{short_encodes}
 use Rattle.asn1_x690_writers.proofs.identifiers.put_identifier.Goals as goal
 

@@ -1,7 +1,7 @@
 use Rattle.std.proofs.Common.{◌++◌, arith}
 use Rattle.std.proofs.lemmas.List.{length-append}
 use Rattle.asn1_bits.specs.Bits.{bits, digits}
-use Rattle.asn1_bits.specs.DigitLaws.{length-digits}
+use Rattle.asn1_bits.specs.Laws.DigitLaws.{length-digits}
 use Rattle.asn1_oid.specs.Writing.{last_octets}
 use Rattle.asn1_x691_writers.specs.GrownSteps.{grown_both}
 use Rattle.asn1_x690_writers.specs.HeaderSteps.{long_encodes, has_digits, digits_whole}

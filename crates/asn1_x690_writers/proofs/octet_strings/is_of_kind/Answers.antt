@@ -1,6 +1,6 @@
 use Rattle.std.proofs.Common.{◌≡◌, ◌%◌, ◌*◌, ◌≤◌, ◌+◌, ℕ, length, sym, subst, arith, List}
 use Rattle.asn1_bits.specs.Bits.{bits}
-use Rattle.asn1_bits.specs.DigitLaws.{length-bits}
+use Rattle.asn1_bits.specs.Laws.DigitLaws.{length-bits}
 use Rattle.asn1_schema.specs.PiecesOfParts.{bits_of}
 use Rattle.asn1_schema.specs.declared.part.Span.{Span}
 use Rattle.asn1_x690_leaves.specs.Told.{AreOctetsOf}

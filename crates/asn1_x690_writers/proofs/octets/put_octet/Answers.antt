@@ -1,6 +1,6 @@
 use Rattle.std.proofs.Common.{ℕ, ◌+◌, ◌/◌, sym, subst, arith}
 use Rattle.asn1_bits.specs.Bits.{digits}
-use Rattle.asn1_bits.specs.DigitLaws.{length-digits}
+use Rattle.asn1_bits.specs.Laws.DigitLaws.{length-digits}
 use Rattle.asn1_x691_writers.specs.Written.{IsIndex}
 use Rattle.asn1_x691_writers.specs.GrownSteps.{grown_short}
 use Rattle.asn1_x690_writers.specs.OctetSteps.{octet_grown}

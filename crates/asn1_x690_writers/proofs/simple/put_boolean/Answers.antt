@@ -1,6 +1,6 @@
 use Rattle.std.proofs.Common.{◌≡◌, ℕ, ap, ◌∙◌, sym, Bool, arith}
 use Rattle.asn1_bits.specs.Bits.{digits}
-use Rattle.asn1_bits.specs.DigitLaws.{length-digits}
+use Rattle.asn1_bits.specs.Laws.DigitLaws.{length-digits}
 use Rattle.asn1_schema.specs.Pieces.{Truth}
 use Rattle.asn1_x690.specs.Der.{always}
 use Rattle.asn1_x690.specs.Leaves.{IsBoolean, truth_octet}

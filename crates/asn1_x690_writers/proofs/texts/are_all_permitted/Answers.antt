@@ -1,7 +1,7 @@
 use Rattle.std.proofs.Common.{ℕ, ◌^◌, ◌<◌, ◌≤◌, List, length, sym, subst, arith}
 use Rattle.std.proofs.Math.Pow.{pow_mono}
 use Rattle.asn1_bits.specs.Bits.{bits}
-use Rattle.asn1_bits.specs.DigitLaws.{length-bits}
+use Rattle.asn1_bits.specs.Laws.DigitLaws.{length-bits}
 use Rattle.asn1_x690.specs.Leaves.{AreIn, IsIn}
 use Rattle.asn1_x690_writers.specs.Texts.{AreWithin}
 use Rattle.asn1_x690_writers.specs.TextSteps.{first_code, first_within, first_is_in, not_cut, is_character}

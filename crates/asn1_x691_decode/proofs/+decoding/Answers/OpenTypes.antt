@@ -9,7 +9,7 @@ use Rattle.asn1_x691_decode.specs.Room.{IsGrown}
 use Rattle.asn1_x691_decode.proofs.OpenSteps.{complete_outcome, complete_fails, enclosed_starts, enclosed_fault, contents_true, contents_false}
 use Rattle.asn1_schema.specs.declared.tables.Presence.{Presence}
 use Rattle.asn1_schema.specs.declared.misfit.MisfitKind.TheVariants as misfit
-use Rattle.asn1_bits.specs.DigitLaws.{length-bits}
+use Rattle.asn1_bits.specs.Laws.DigitLaws.{length-bits}
 use Rattle.asn1_x691.specs.declared.fault.FaultKind.TheVariants.{DefaultValue}
 use Rattle.asn1_x691.specs.Fields.{phase}
 use Rattle.asn1_x691_fields.specs.Outcomes.{position}

@@ -1,7 +1,7 @@
 -- Answers for the decoders of src/sequence.rt.
 use Rattle.std.proofs.Common.{◌≡◌, ℕ, ◌+◌, ◌-◌, ◌∷◌, List, Bool, true, false, sym, ◌∙◌, ap, subst, arith, inl}
 use Rattle.asn1_bits.specs.Bits.{bits}
-use Rattle.asn1_bits.specs.DigitLaws.{length-bits}
+use Rattle.asn1_bits.specs.Laws.DigitLaws.{length-bits}
 use Rattle.asn1_schema.specs.Pieces.{Absent, Sequence, Parts}
 use Rattle.asn1_schema.specs.PiecesOfParts.{bits_at}
 use Rattle.asn1_schema.specs.Fields.{raw_bits}

@@ -1,6 +1,6 @@
 use Rattle.std.proofs.Common.{sym, ◌∙◌, ap, arith, inr}
 use Rattle.asn1_bits.specs.Bits.{bits, number}
-use Rattle.asn1_bits.specs.DigitLaws.{length-bits}
+use Rattle.asn1_bits.specs.Laws.DigitLaws.{length-bits}
 use Rattle.asn1_x691.specs.declared.fault.FaultKind.TheVariants.{NotZero}
 use Rattle.asn1_x691_fields.specs.Outcomes.{rest}
 use Rattle.asn1_x691_fields.specs.Steps.{rest_length, fault_at}

@@ -1,6 +1,6 @@
 use Rattle.std.proofs.Common.{◌≡◌, ◌^◌, sym, ◌∙◌, ap}
 use Rattle.asn1_characters.specs.Widths.{ceil_log2}
-use Rattle.asn1_characters.specs.WidthLaws.{ceil_log2_is}
+use Rattle.asn1_characters.specs.Laws.WidthLaws.{ceil_log2_is}
 use Rattle.asn1_x691_fields.proofs.AlphabetLemmas.{width_of_many, width_is_ceil, power_is_least, few_bits}
 use Rattle.asn1_x691_fields.proofs.alphabets.width_of.Goals as goal
 

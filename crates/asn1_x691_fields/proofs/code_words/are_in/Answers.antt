@@ -3,8 +3,8 @@ use Rattle.std.specs.List.{AllByRecursion}
 use Rattle.std.proofs.lemmas.List.{length-drop, length-take-le, drop-drop}
 use Rattle.std.proofs.Math.Nat.{mul-add, mul-le-mul_right}
 use Rattle.asn1_bits.specs.Bits.{bits, digits, number}
-use Rattle.asn1_bits.specs.DigitLaws.{length-bits}
-use Rattle.asn1_bits.specs.NumberLaws.{digits_of-number, number-below}
+use Rattle.asn1_bits.specs.Laws.DigitLaws.{length-bits}
+use Rattle.asn1_bits.specs.Laws.NumberLaws.{digits_of-number, number-below}
 use Rattle.asn1_schema.specs.CharactersOfParts.{numbers_in}
 use Rattle.asn1_x691_fields.proofs.WordLemmas.{front_numbers, all_numbers, first_numbers}
 use Rattle.asn1_x691_fields.proofs.code_words.are_in.Goals as goal

@@ -1,6 +1,6 @@
 use Rattle.std.proofs.Common.{sym, ◌∙◌, arith}
 use Rattle.asn1_bits.specs.Bits.{bits}
-use Rattle.asn1_bits.specs.DigitLaws.{length-bits}
+use Rattle.asn1_bits.specs.Laws.DigitLaws.{length-bits}
 use Rattle.asn1_x691_fields.specs.ContentSteps.{are_identifier, are_no_identifier, empty_is_none}
 use Rattle.asn1_x691_fields.proofs.contents.are_subidentifiers.Goals as goal
 

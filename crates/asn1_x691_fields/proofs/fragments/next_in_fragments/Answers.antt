@@ -1,6 +1,6 @@
 use Rattle.std.proofs.Common.{◌≡◌, ℕ, ◌+◌, ◌-◌, ◌*◌, ◌^◌, ◌%◌, ◌<◌, ◌≤◌, ◌++◌, true, take, drop, sym, subst, arith}
 use Rattle.asn1_bits.specs.Bits.{bits}
-use Rattle.asn1_bits.specs.DigitLaws.{length-bits}
+use Rattle.asn1_bits.specs.Laws.DigitLaws.{length-bits}
 use Rattle.asn1_schema.specs.declared.part.Fragments.{Fragments}
 use Rattle.asn1_schema.specs.Encodings.{Starts}
 use Rattle.asn1_schema.specs.PiecesOfParts.{bits_of, joined}

@@ -1,6 +1,6 @@
 use Rattle.std.proofs.Common.{◌+◌, ◌≤◌, length, arith}
 use Rattle.asn1_bits.specs.Bits.{bits}
-use Rattle.asn1_bits.specs.DigitLaws.{length-bits}
+use Rattle.asn1_bits.specs.Laws.DigitLaws.{length-bits}
 use Rattle.asn1_schema.specs.PiecesOfParts.{bits_of, signed_number}
 use Rattle.asn1_x691_fields.specs.SignedSteps.{far, far_below, far_above}
 use Rattle.asn1_x691_fields.proofs.signed.is_below.Goals as goal

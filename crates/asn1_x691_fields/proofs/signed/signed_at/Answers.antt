@@ -4,7 +4,7 @@ use mir.Val.{to_z, of_z}
 use Rattle.std.proofs.lemmas.Int.{to_z_pos, to_z-of_z}
 use Rattle.std.proofs.Math.Pow.{pow_mono}
 use Rattle.asn1_bits.specs.Bits.{bits}
-use Rattle.asn1_bits.specs.DigitLaws.{length-bits}
+use Rattle.asn1_bits.specs.Laws.DigitLaws.{length-bits}
 use Rattle.asn1_schema.specs.PiecesOfParts.{bits_of}
 use Rattle.asn1_x691_fields.specs.Steps.{front_length}
 use Rattle.asn1_x691_fields.specs.SignedSteps.{is_positive, is_negative}

@@ -1,7 +1,7 @@
 use Rattle.std.proofs.Common.{◌-◌, ◌^◌, ◌≤◌, [], inl, refl, arith}
 use Rattle.std.proofs.Math.Pow.{pow_mono}
 use Rattle.asn1_bits.specs.Bits.{bits, number}
-use Rattle.asn1_bits.specs.DigitLaws.{length-bits}
+use Rattle.asn1_bits.specs.Laws.DigitLaws.{length-bits}
 use Rattle.asn1_schema.specs.PiecesOfParts.{bits_of}
 use Rattle.asn1_x691_fields.proofs.small.next_at_least_64.Goals as goal
 use Rattle.asn1_x691_fields.proofs.small.next_at_least_64.Goals.{Then-span-gt64}

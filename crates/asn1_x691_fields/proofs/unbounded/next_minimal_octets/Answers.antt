@@ -1,6 +1,6 @@
 use Rattle.std.proofs.Common.{◌≡◌, ℕ, ◌-◌, ◌*◌, ◌^◌, ◌≤◌, take, drop, inl, inr, ◌∙◌, sym, subst, arith}
 use Rattle.asn1_bits.specs.Bits.{bits, number as number_of}
-use Rattle.asn1_bits.specs.DigitLaws.{length-bits}
+use Rattle.asn1_bits.specs.Laws.DigitLaws.{length-bits}
 use Rattle.asn1_x691.specs.declared.fault.FaultKind.TheVariants.{NotMinimal}
 use Rattle.asn1_x691_fields.specs.Outcomes.{rest, fault_of}
 use Rattle.asn1_x691_fields.specs.Steps.{fault_at}

@@ -1,7 +1,7 @@
 use Rattle.std.proofs.Common.{◌<◌, ◌+◌, ◌*◌, ◌^◌, ◌∷◌, ◌++◌, ℕ, List, [], drop, sym, ◌∙◌, ap, arith}
 use Rattle.std.proofs.lemmas.List.{take_more_set}
 use Rattle.asn1_bits.specs.Bits.{bits}
-use Rattle.asn1_bits.specs.DigitLaws.{length-bits}
+use Rattle.asn1_bits.specs.Laws.DigitLaws.{length-bits}
 use Rattle.asn1_schema.specs.CharactersOfParts.{numbers_in}
 use Rattle.asn1_x691_fields.specs.Steps.{number_below}
 use Rattle.asn1_x691_fields.specs.Utf8Steps.{one_more_octet}

@@ -1,7 +1,7 @@
 use Rattle.std.proofs.Common.{[], drop, sym, subst, arith, refl}
 use Rattle.std.specs.Str.{IsUtf8}
 use Rattle.asn1_bits.specs.Bits.{bits}
-use Rattle.asn1_bits.specs.DigitLaws.{length-bits}
+use Rattle.asn1_bits.specs.Laws.DigitLaws.{length-bits}
 use Rattle.asn1_x691_fields.specs.ContentSteps.{no_octets}
 use Rattle.asn1_x691_fields.specs.Utf8Steps.{text_goes_on, text_joins, is_text, is_no_text}
 use Rattle.asn1_x691_fields.proofs.utf8_texts.is_utf8.Goals as goal

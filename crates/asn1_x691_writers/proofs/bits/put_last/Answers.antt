@@ -1,6 +1,6 @@
 use Rattle.std.proofs.Common.{◌≡◌, ℕ, ◌+◌, ◌*◌, ◌<◌, length, subst, arith}
 use Rattle.asn1_bits.specs.Bits.{bits, digits}
-use Rattle.asn1_bits.specs.DigitLaws.{length-bits, length-digits}
+use Rattle.asn1_bits.specs.Laws.DigitLaws.{length-bits, length-digits}
 use Rattle.asn1_x691_writers.specs.Written.{IsIndex, IsGrown}
 use Rattle.asn1_x691_writers.specs.GrownSteps.{grown_short, grown_stored}
 use Rattle.asn1_x691_writers.proofs.WordLemmas.{over_stored}

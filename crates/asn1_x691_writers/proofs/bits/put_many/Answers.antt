@@ -1,7 +1,7 @@
 use Rattle.std.proofs.Common.{◌≡◌, ℕ, ◌+◌, ◌*◌, ◌<◌, length, take, drop, subst, ap, ◌∙◌, arith}
 use Rattle.asn1_bits.specs.Bits.{bits, overwritten}
 use Rattle.asn1_bits.specs.View.{list_of}
-use Rattle.asn1_bits.specs.DigitLaws.{length-bits}
+use Rattle.asn1_bits.specs.Laws.DigitLaws.{length-bits}
 use Rattle.asn1_x691_fields.specs.Steps.{front_length}
 use Rattle.asn1_x691_writers.specs.Written.{IsIndex, IsGrown}
 use Rattle.asn1_x691_writers.specs.GrownSteps.{grown_short, grown_stored}

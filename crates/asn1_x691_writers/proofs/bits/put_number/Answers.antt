@@ -1,6 +1,6 @@
 use Rattle.std.proofs.Common.{◌≡◌, ℕ, ◌+◌, ◌*◌, ◌/◌, ◌%◌, ◌^◌, ◌<◌, length, subst, sym, ap, ◌∙◌, arith, ◌-◌, ◌≤◌, ◌++◌, take}
 use Rattle.asn1_bits.specs.Bits.{bits, digits}
-use Rattle.asn1_bits.specs.DigitLaws.{length-bits, length-digits}
+use Rattle.asn1_bits.specs.Laws.DigitLaws.{length-bits, length-digits}
 use Rattle.std.proofs.Math.Nat.{mod-eq_of_lt}
 use Rattle.asn1_x691_writers.specs.Written.{IsGrown}
 use Rattle.asn1_x691_writers.specs.GrownSteps.{grown_stored}

@@ -1,8 +1,8 @@
 use Rattle.std.proofs.Common.{◌≡◌, ℕ, ◌+◌, ◌*◌, List, ◌++◌, Bool, length, take, drop, sym, ap, ◌∙◌, arith}
 use Rattle.std.proofs.lemmas.List.{drop-drop}
 use Rattle.asn1_bits.specs.Bits.{bits, digits, overwritten}
-use Rattle.asn1_bits.specs.ByteLaws.{bits-bytes}
-use Rattle.asn1_bits.specs.DigitLaws.{bits-append, bits-take, bits-drop, length-digits}
+use Rattle.asn1_bits.specs.Laws.ByteLaws.{bits-bytes}
+use Rattle.asn1_bits.specs.Laws.DigitLaws.{bits-append, bits-take, bits-drop, length-digits}
 use Rattle.asn1_x691_writers.proofs.bits.store.Goals as goal
 
 pub returns-in-Some : goal.returns-in-Some

@@ -1,6 +1,6 @@
 use Rattle.std.proofs.Common.{ℕ, ◌^◌, ◌<◌, List, length, sym, subst, arith}
 use Rattle.asn1_bits.specs.Bits.{bits, number}
-use Rattle.asn1_bits.specs.DigitLaws.{length-bits}
+use Rattle.asn1_bits.specs.Laws.DigitLaws.{length-bits}
 use Rattle.asn1_schema.specs.CharactersOfParts.{character_of}
 use Rattle.asn1_schema.specs.PiecesOfParts.{bits_at}
 use Rattle.asn1_x691.specs.Alphabets.{IsIn}

@@ -1,7 +1,7 @@
 use Rattle.std.proofs.Common.{◌-◌, ◌^◌, ◌≤◌, ap, sym, ◌∙◌, arith}
 use Rattle.std.proofs.Math.Pow.{pow_mono}
 use Rattle.asn1_bits.specs.Bits.{number}
-use Rattle.asn1_bits.specs.NumberLaws.{number_of-digits}
+use Rattle.asn1_bits.specs.Laws.NumberLaws.{number_of-digits}
 use Rattle.asn1_x691_writers.proofs.characters.number_in.Goals as goal
 
 pub returns-then-span-le57 : goal.returns-then-span-le57

@@ -1,7 +1,7 @@
 use Rattle.std.proofs.Common.{◌≡◌, ◌+◌, ◌*◌, ◌++◌, Bool, length, sym, ap, ◌∙◌, subst, arith}
 use Rattle.std.proofs.lemmas.Bool.{lt-ltb, le-ltb}
 use Rattle.asn1_bits.specs.Bits.{digits}
-use Rattle.asn1_bits.specs.DigitLaws.{length-digits}
+use Rattle.asn1_bits.specs.Laws.DigitLaws.{length-digits}
 use Rattle.asn1_x691_writers.specs.Enclosed.{length_bits, length_bits_by}
 use Rattle.asn1_x691_writers.specs.EnclosedSteps.{over_grown}
 use Rattle.asn1_x691_writers.specs.Written.{IsGrown}

@@ -1,6 +1,6 @@
 use Rattle.std.proofs.Common.{◌+◌, ◌*◌, ◌<◌, length, refl, inr, arith}
 use Rattle.asn1_bits.specs.Bits.{digits}
-use Rattle.asn1_bits.specs.DigitLaws.{length-digits}
+use Rattle.asn1_bits.specs.Laws.DigitLaws.{length-digits}
 use Rattle.asn1_x691_writers.proofs.enclosed.put_over.Goals as goal
 
 pub returns-then-at-width : goal.returns-then-at-width

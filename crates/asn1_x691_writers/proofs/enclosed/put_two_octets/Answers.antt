@@ -1,6 +1,6 @@
 use Rattle.std.proofs.Common.{◌+◌, ◌/◌, arith}
 use Rattle.asn1_bits.specs.Bits.{digits}
-use Rattle.asn1_bits.specs.DigitLaws.{length-digits}
+use Rattle.asn1_bits.specs.Laws.DigitLaws.{length-digits}
 use Rattle.asn1_x691_writers.specs.EnclosedSteps.{moved_short, moved_grown}
 use Rattle.asn1_x691_writers.proofs.enclosed.put_two_octets.Goals as goal
 

@@ -1,6 +1,6 @@
 use Rattle.std.proofs.Common.{◌+◌, ◌≤◌, [], ◌∷◌, Bool, length, ap, ◌∙◌, arith}
 use Rattle.asn1_bits.specs.Bits.{bits}
-use Rattle.asn1_bits.specs.DigitLaws.{length-bits}
+use Rattle.asn1_bits.specs.Laws.DigitLaws.{length-bits}
 use Rattle.asn1_x691_writers.specs.DigitSteps.{zero_first, one_first}
 use Rattle.asn1_x691_writers.proofs.held.strip_zeros.Goals as goal
 

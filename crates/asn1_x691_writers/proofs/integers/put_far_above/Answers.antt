@@ -4,7 +4,7 @@ use Rattle.std.specs.Prelude.{◌+ℤ◌}
 use Rattle.std.proofs.lemmas.Bool.{cases_lt}
 use Rattle.std.proofs.lemmas.Int.{to_z-of_z}
 use Rattle.asn1_bits.specs.Bits.{bits, number}
-use Rattle.asn1_bits.specs.NumberLaws.{number-nil}
+use Rattle.asn1_bits.specs.Laws.NumberLaws.{number-nil}
 use Rattle.asn1_schema.specs.Pieces.{Piece, Integer}
 use Rattle.asn1_schema.specs.PiecesOfParts.{bits_at, bits_of}
 use Rattle.asn1_x691.specs.Leaves.{integer_at_least}

@@ -1,6 +1,6 @@
 use Rattle.std.proofs.Common.{◌*◌, ◌-◌, ◌/◌, length, arith}
 use Rattle.asn1_bits.specs.Bits.{bits}
-use Rattle.asn1_bits.specs.DigitLaws.{length-bits}
+use Rattle.asn1_bits.specs.Laws.DigitLaws.{length-bits}
 use Rattle.asn1_x691_writers.proofs.JoinedLemmas.{same_after, same_whole, same_part}
 use Rattle.asn1_x691_writers.proofs.joined.joined_of.Goals as goal
 

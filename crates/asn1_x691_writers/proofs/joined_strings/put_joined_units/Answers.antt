@@ -1,6 +1,6 @@
 use Rattle.std.proofs.Common.{◌^◌, ◌<◌, length, arith}
 use Rattle.asn1_bits.specs.Bits.{bits}
-use Rattle.asn1_bits.specs.DigitLaws.{length-bits}
+use Rattle.asn1_bits.specs.Laws.DigitLaws.{length-bits}
 use Rattle.asn1_x691_writers.specs.Joined.{bits_in}
 use Rattle.asn1_x691_writers.specs.JoinedSteps.{few_in}
 use Rattle.asn1_x691_writers.proofs.FragmentLemmas.{fragmented_first, fragmented_next, fragmented_last, units_before}

@@ -1,6 +1,6 @@
 use Rattle.std.proofs.Common.{ℕ, suc, ◌^◌, ◌<◌, ◌++◌, List, length, subst, arith}
 use Rattle.asn1_bits.specs.Bits.{bits}
-use Rattle.asn1_bits.specs.DigitLaws.{length-bits}
+use Rattle.asn1_bits.specs.Laws.DigitLaws.{length-bits}
 use Rattle.asn1_schema.specs.CharactersOfParts.{characters_of}
 use Rattle.asn1_x691.specs.Characters.{characters}
 use Rattle.asn1_x691.specs.Fragments.{all_units}

@@ -1,7 +1,7 @@
 use Rattle.asn1_x691.specs.Fragments.{most_fragments}
 use Rattle.std.proofs.Common.{◌≡◌, ℕ, ◌*◌, ◌/◌, refl, subst, arith}
 use Rattle.asn1_bits.specs.Bits.{bits}
-use Rattle.asn1_bits.specs.DigitLaws.{length-bits}
+use Rattle.asn1_bits.specs.Laws.DigitLaws.{length-bits}
 use Rattle.asn1_schema.specs.declared.misfit.MisfitKind.TheVariants.{NoEncoding}
 use Rattle.asn1_schema.specs.Pieces.{Octets}
 use Rattle.asn1_schema.specs.PiecesOfParts.{bits_at}

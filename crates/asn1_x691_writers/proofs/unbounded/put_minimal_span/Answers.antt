@@ -1,6 +1,6 @@
 use Rattle.std.proofs.Common.{ℕ, ◌-◌, ◌%◌, ◌^◌, ◌≤◌, length, sym, subst, arith}
 use Rattle.asn1_bits.specs.Bits.{bits, digits, number}
-use Rattle.asn1_bits.specs.DigitLaws.{length-bits}
+use Rattle.asn1_bits.specs.Laws.DigitLaws.{length-bits}
 use Rattle.asn1_schema.specs.PiecesOfParts.{bits_of}
 use Rattle.asn1_x691_fields.specs.Steps.{front_length}
 use Rattle.asn1_x691_writers.specs.GrownSteps.{grown_both}

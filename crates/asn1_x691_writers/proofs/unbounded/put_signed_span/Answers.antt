@@ -1,6 +1,6 @@
 use Rattle.std.proofs.Common.{◌≡◌, ℕ, ◌+◌, ◌-◌, ◌%◌, ◌^◌, ◌≤◌, List, ◌∷◌, ◌++◌, Bool, length, replicate, sym, ap, ◌∙◌, subst, arith}
 use Rattle.asn1_bits.specs.Bits.{bits}
-use Rattle.asn1_bits.specs.DigitLaws.{length-bits}
+use Rattle.asn1_bits.specs.Laws.DigitLaws.{length-bits}
 use Rattle.asn1_schema.specs.Encodings.{anywhere}
 use Rattle.asn1_schema.specs.PiecesOfParts.{bits_at, bits_of, signed_number}
 use Rattle.asn1_x691.specs.Fields.{signed_octets}

@@ -2,7 +2,7 @@ use Rattle.std.proofs.Common.{◌≡◌, true, refl, ap, sym, ◌∙◌}
 use Rattle.std.specs.List.{range_with_len}
 use Rattle.asn1_characters.specs.Sets.{has_character}
 use Rattle.asn1_alphabets.specs.AlphabetInMemory.{some_if, set_of}
-use Rattle.asn1_alphabets.specs.AlphabetLaws.{stands_in}
+use Rattle.asn1_alphabets.specs.Laws.AlphabetLaws.{stands_in}
 use Rattle.asn1_alphabets.proofs.alphabet.CharacterAlphabet.code_of.Goals as goal
 
 pub returns-else-self-2-clause-code : goal.returns-else-self-2-clause-code

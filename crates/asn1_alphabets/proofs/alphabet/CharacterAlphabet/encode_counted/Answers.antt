@@ -1,6 +1,6 @@
 use Rattle.asn1_alphabets.specs.AlphabetView.{alphabet_of}
-use Rattle.asn1_alphabets.specs.AlphabetLaws.{missing_has_none}
-use Rattle.asn1_alphabets.specs.AlphabetViewLaws.{codes_fit}
+use Rattle.asn1_alphabets.specs.Laws.AlphabetLaws.{missing_has_none}
+use Rattle.asn1_alphabets.specs.Laws.AlphabetViewLaws.{codes_fit}
 use Rattle.asn1_alphabets.proofs.alphabet.CharacterAlphabet.encode_counted.Goals as goal
 
 pub returns-in-Some-clause-code : goal.returns-in-Some-clause-code

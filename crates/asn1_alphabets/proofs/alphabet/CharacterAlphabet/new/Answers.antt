@@ -1,4 +1,4 @@
-use Rattle.asn1_characters.specs.TableLaws.{few_in_base}
+use Rattle.asn1_characters.specs.Laws.TableLaws.{few_in_base}
 use Rattle.asn1_alphabets.proofs.alphabet.CharacterAlphabet.new.Goals as goal
 
 pub of_set-requires : goal.of_set-requires

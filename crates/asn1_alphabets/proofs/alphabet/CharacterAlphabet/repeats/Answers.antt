@@ -5,7 +5,7 @@ use Rattle.std.specs.List.{AllPairs}
 use Rattle.asn1_characters.specs.Sets.{base_set}
 use Rattle.asn1_alphabets.specs.AlphabetInMemory.{some_if, set_of}
 use Rattle.asn1_alphabets.specs.AlphabetView.{alphabet_of}
-use Rattle.asn1_alphabets.specs.AlphabetLaws.{code_is_one}
+use Rattle.asn1_alphabets.specs.Laws.AlphabetLaws.{code_is_one}
 use Rattle.asn1_alphabets.proofs.RepeatLemmas.{base_once, once_pairs}
 use Rattle.asn1_alphabets.proofs.alphabet.CharacterAlphabet.repeats.Goals as goal
 

@@ -1,5 +1,5 @@
 use Rattle.std.proofs.Common.{rules}
-use Rattle.asn1_alphabets.specs.AlphabetViewLaws.{codes_fit}
+use Rattle.asn1_alphabets.specs.Laws.AlphabetViewLaws.{codes_fit}
 use Rattle.asn1_alphabets.proofs.alphabet.CharacterAlphabet.width.Goals as goal
 
 pub returns-clause-codes : goal.returns-clause-codes

@@ -1,4 +1,4 @@
-use Rattle.asn1_characters.specs.TableLaws.{few_in_base}
+use Rattle.asn1_characters.specs.Laws.TableLaws.{few_in_base}
 use Rattle.asn1_alphabets.proofs.effective_set.EffectiveSet.of.Goals as goal
 
 pub returns-else-align-width-clause-few : goal.returns-else-align-width-clause-few

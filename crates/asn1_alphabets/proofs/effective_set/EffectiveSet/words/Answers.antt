@@ -1,6 +1,6 @@
 use Rattle.std.proofs.Common.{rules, lit≤}
 use Rattle.asn1_characters.specs.Sets.{base_set}
-use Rattle.asn1_characters.specs.TableLaws.{largest-base_set, largest_small}
+use Rattle.asn1_characters.specs.Laws.TableLaws.{largest-base_set, largest_small}
 use Rattle.asn1_characters.specs.declared.character_set.CharacterSetName.TheVariants.{Bmp}
 use Rattle.asn1_alphabets.proofs.AlphabetLemmas.{some_words}
 use Rattle.asn1_alphabets.proofs.effective_set.EffectiveSet.words.Goals as goal

@@ -1,6 +1,6 @@
 use Rattle.std.proofs.Common.{ℕ, ap, ◌∙◌, arith}
 use Rattle.asn1_bits.specs.Bits.{digits, ored}
-use Rattle.asn1_bits.specs.DigitLaws.{length-digits}
+use Rattle.asn1_bits.specs.Laws.DigitLaws.{length-digits}
 use Rattle.asn1_bits.proofs.RoomLemmas.{Filled, room-step}
 use Rattle.asn1_bits.proofs.bit_appender.BitAppender.push.Goals as goal
 

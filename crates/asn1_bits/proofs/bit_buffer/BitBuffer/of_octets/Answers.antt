@@ -2,7 +2,7 @@ use Rattle.std.proofs.Common.{◌≡◌, ℕ, ◌*◌, List, length, sym, arith}
 use Rattle.std.proofs.lemmas.List.{append-nil}
 use Rattle.asn1_bits.specs.Bits.{bits}
 use Rattle.asn1_bits.specs.BitBuffer.{bits_shown, IsFilled}
-use Rattle.asn1_bits.specs.DigitLaws.{length-bits}
+use Rattle.asn1_bits.specs.Laws.DigitLaws.{length-bits}
 use Rattle.asn1_bits.proofs.BufferLemmas.{filled_by}
 use Rattle.asn1_bits.proofs.bit_buffer.BitBuffer.of_octets.Goals as goal
 

@@ -2,7 +2,7 @@ use Rattle.std.proofs.Common.{◌≡◌, ℕ, ◌+◌, ◌/◌, ◌≤◌, Bool,
 use Rattle.std.proofs.lemmas.List.{with_items_is, length-append}
 use Rattle.asn1_bits.specs.Bits.{bits, digits, ored}
 use Rattle.asn1_bits.specs.BitBuffer.{bits_shown, IsFilled}
-use Rattle.asn1_bits.specs.DigitLaws.{length-digits}
+use Rattle.asn1_bits.specs.Laws.DigitLaws.{length-digits}
 use Rattle.asn1_bits.proofs.BufferLemmas.{length-bits_shown, filled-ready}
 use Rattle.asn1_bits.proofs.PutLemmas.{digits-lowest, filled-pushed}
 use Rattle.asn1_bits.proofs.bit_buffer.BitBuffer.push_bits.Goals as goal

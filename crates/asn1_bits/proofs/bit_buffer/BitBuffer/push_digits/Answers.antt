@@ -1,7 +1,7 @@
 use Rattle.std.proofs.Common.{Bool, List, length, ap, ◌∙◌, arith}
 use Rattle.std.proofs.lemmas.List.{length-append}
 use Rattle.asn1_bits.specs.Bits.{digits, ored}
-use Rattle.asn1_bits.specs.DigitLaws.{length-digits}
+use Rattle.asn1_bits.specs.Laws.DigitLaws.{length-digits}
 use Rattle.asn1_bits.proofs.OredLemmas.{ored-onto}
 use Rattle.asn1_bits.proofs.bit_buffer.BitBuffer.push_digits.Goals as goal
 

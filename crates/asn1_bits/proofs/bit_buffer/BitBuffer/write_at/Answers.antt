@@ -2,7 +2,7 @@ use Rattle.std.proofs.Common.{◌≡◌, ℕ, ◌^◌, ◌<◌, Bool, List, leng
 use Rattle.std.proofs.lemmas.List.{with_items_is}
 use Rattle.asn1_bits.specs.Bits.{bits, ored}
 use Rattle.asn1_bits.specs.BitStr.{view_of, bits_of}
-use Rattle.asn1_bits.specs.ViewLaws.{length-list_of}
+use Rattle.asn1_bits.specs.Laws.ViewLaws.{length-list_of}
 use Rattle.asn1_bits.specs.BitBuffer.{bits_shown, IsFilled}
 use Rattle.asn1_bits.proofs.BufferLemmas.{length-bits_shown, len_fits, filled-ored, zeros-shown}
 use Rattle.asn1_bits.proofs.bit_buffer.BitBuffer.write_at.Goals as goal

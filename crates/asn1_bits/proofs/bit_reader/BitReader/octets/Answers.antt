@@ -1,6 +1,6 @@
 use Rattle.std.proofs.Common.{rules, List, Bool, ◌++◌, ap, ◌∙◌}
 use Rattle.asn1_bits.specs.BitReader.{bits_left}
-use Rattle.asn1_bits.specs.ViewLaws.{bits-none}
+use Rattle.asn1_bits.specs.Laws.ViewLaws.{bits-none}
 use Rattle.asn1_bits.proofs.bit_reader.BitReader.octets.Goals as goal
 
 pub returns-clause-bits : goal.returns-clause-bits

@@ -3,7 +3,7 @@ use Rattle.std.specs.Prelude.{All}
 use Rattle.std.proofs.lemmas.List.Elements.{All-take, All-drop}
 use Rattle.asn1_bits.specs.Bits.{bits}
 use Rattle.asn1_bits.specs.BitStr.{view_of}
-use Rattle.asn1_bits.specs.ViewLaws.{list_of-aligned}
+use Rattle.asn1_bits.specs.Laws.ViewLaws.{list_of-aligned}
 use Rattle.asn1_bits.proofs.bit_str.BitStr.aligned.Goals as goal
 
 -- where the octets lie

@@ -4,8 +4,8 @@ use Rattle.std.proofs.lemmas.List.{length-drop, take-take}
 use Rattle.std.specs.Ordering.{nat_cmp, ordering_then}
 use Rattle.asn1_bits.specs.Bits.{digits, number}
 use Rattle.asn1_bits.specs.BitStr.{view_of, bits_of}
-use Rattle.asn1_bits.specs.NumberLaws.{number-nil, number_of-digits}
-use Rattle.asn1_bits.specs.ViewLaws.{length-list_of}
+use Rattle.asn1_bits.specs.Laws.NumberLaws.{number-nil, number_of-digits}
+use Rattle.asn1_bits.specs.Laws.ViewLaws.{length-list_of}
 use Rattle.asn1_bits.proofs.OrderLemmas.{differ, last-bits}
 use Rattle.asn1_bits.proofs.bit_str.BitStr.cmp_words.Goals as goal
 

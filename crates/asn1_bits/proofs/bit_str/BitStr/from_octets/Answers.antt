@@ -1,7 +1,7 @@
 use Rattle.std.proofs.Common.{rules, ◌*◌, length, ◌∙◌, arith}
 use Rattle.std.proofs.lemmas.List.{take_all}
 use Rattle.asn1_bits.specs.Bits.{bits}
-use Rattle.asn1_bits.specs.DigitLaws.{length-bits}
+use Rattle.asn1_bits.specs.Laws.DigitLaws.{length-bits}
 use Rattle.asn1_bits.proofs.bit_str.BitStr.from_octets.Goals as goal
 
 pub returns-clause-list : goal.returns-clause-list

@@ -1,7 +1,7 @@
 use Rattle.std.proofs.Common.{◌≡◌, ℕ, ◌+◌, ◌*◌, ap, ◌∙◌, arith}
 use Rattle.asn1_bits.specs.BitStr.{view_of}
 use Rattle.asn1_bits.specs.View.{list_of}
-use Rattle.asn1_bits.specs.ViewLaws.{list_of-part}
+use Rattle.asn1_bits.specs.Laws.ViewLaws.{list_of-part}
 use Rattle.asn1_bits.proofs.bit_str.BitStr.front.Goals as goal
 
 pub returns-clause-list : goal.returns-clause-list

@@ -2,7 +2,7 @@ use Rattle.std.proofs.Common.{false, sym, ap, ◌∙◌, arith}
 use Rattle.std.specs.Prelude.{Some}
 use Rattle.std.proofs.lemmas.Option.{slice_get-get_or}
 use Rattle.asn1_bits.specs.BitStr.{view_of, bits_of}
-use Rattle.asn1_bits.specs.ViewLaws.{length-list_of, get_or-list_of}
+use Rattle.asn1_bits.specs.Laws.ViewLaws.{length-list_of, get_or-list_of}
 use Rattle.asn1_bits.proofs.bit_str.BitStr.get.Goals as goal
 
 pub returns : goal.returns

@@ -1,6 +1,6 @@
 use Rattle.std.proofs.Common.{rules, sym}
 use Rattle.asn1_bits.specs.BitStr.{view_of}
-use Rattle.asn1_bits.specs.ViewLaws.{length-list_of}
+use Rattle.asn1_bits.specs.Laws.ViewLaws.{length-list_of}
 use Rattle.asn1_bits.proofs.bit_str.BitStr.len.Goals as goal
 
 pub returns-clause-list : goal.returns-clause-list

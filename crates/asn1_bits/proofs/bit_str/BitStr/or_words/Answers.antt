@@ -1,7 +1,7 @@
 use Rattle.std.proofs.Common.{◌+◌, ◌-◌, ◌*◌, ◌/◌, ◌%◌, ap, ◌∙◌, arith}
 use Rattle.asn1_bits.specs.Bits.{bits, ored}
 use Rattle.asn1_bits.specs.BitStr.{view_of}
-use Rattle.asn1_bits.specs.ViewLaws.{list_of-run}
+use Rattle.asn1_bits.specs.Laws.ViewLaws.{list_of-run}
 use Rattle.asn1_bits.proofs.bit_str.BitStr.or_words.Goals as goal
 
 pub returns-then-low-eq0-clause-bits : goal.returns-then-low-eq0-clause-bits

@@ -3,7 +3,7 @@ use Rattle.std.proofs.lemmas.List.{append-nil, take_at, length-append}
 use Rattle.asn1_bits.specs.Bits.{bits}
 use Rattle.asn1_bits.specs.BitStr.{view_of, bits_of}
 use Rattle.asn1_bits.proofs.BufferLemmas.{bits-lengthened}
-use Rattle.asn1_bits.specs.ViewLaws.{length-list_of, list_of-none}
+use Rattle.asn1_bits.specs.Laws.ViewLaws.{length-list_of, list_of-none}
 use Rattle.asn1_bits.proofs.bit_str.BitStr.push_moved_octets_to.Goals as goal
 
 pub returns-then-count-eq0-clause-ok : goal.returns-then-count-eq0-clause-ok

@@ -1,6 +1,6 @@
 use Rattle.std.proofs.Common.{Bool, List, ◌++◌, ap, ◌∙◌}
 use Rattle.asn1_bits.specs.Bits.{bits}
-use Rattle.asn1_bits.specs.DigitLaws.{bits-append}
+use Rattle.asn1_bits.specs.Laws.DigitLaws.{bits-append}
 use Rattle.asn1_bits.proofs.bit_str.BitStr.push_octets_to.Goals as goal
 
 pub returns-in-Some-clause-ok : goal.returns-in-Some-clause-ok

@@ -1,7 +1,7 @@
 use Rattle.std.proofs.Common.{rules, ◌-◌, drop, ◌∙◌, arith}
 use Rattle.std.proofs.lemmas.List.{take_all, length-drop}
 use Rattle.asn1_bits.specs.BitStr.{view_of, bits_of}
-use Rattle.asn1_bits.specs.ViewLaws.{length-list_of}
+use Rattle.asn1_bits.specs.Laws.ViewLaws.{length-list_of}
 use Rattle.asn1_bits.proofs.bit_str.BitStr.split_at.Goals as goal
 
 pub returns-clause-back_list : goal.returns-clause-back_list

@@ -2,7 +2,7 @@ use Rattle.std.proofs.Common.{rules, ◌≡◌, ℕ, ◌+◌, ◌-◌, ◌*◌, 
 use Rattle.std.proofs.lemmas.List.{take_all, length-drop}
 use Rattle.asn1_bits.specs.BitStr.{view_of, bits_of}
 use Rattle.asn1_bits.specs.View.{list_of}
-use Rattle.asn1_bits.specs.ViewLaws.{list_of-part, length-list_of}
+use Rattle.asn1_bits.specs.Laws.ViewLaws.{list_of-part, length-list_of}
 use Rattle.asn1_bits.proofs.bit_str.BitStr.split_below_256.Goals as goal
 
 pub returns-clause-front_list : goal.returns-clause-front_list

@@ -1,6 +1,6 @@
 use Rattle.std.proofs.Common.{◌+◌, ◌/◌, ◌%◌, arith}
 use Rattle.asn1_bits.specs.BitStr.{view_of}
-use Rattle.asn1_bits.specs.ViewLaws.{whole_read}
+use Rattle.asn1_bits.specs.Laws.ViewLaws.{whole_read}
 use Rattle.asn1_bits.proofs.bit_str.BitStr.word_of_64.Goals as goal
 
 pub returns : goal.returns

@@ -2,8 +2,8 @@ use Rattle.std.proofs.Common.{rules, ℕ, ap, ◌∙◌}
 use Rattle.asn1_bits.specs.Bits.{digits}
 use Rattle.asn1_bits.specs.BitStr.{view_of, bits_of}
 use Rattle.asn1_bits.specs.View.{list_of}
-use Rattle.asn1_bits.specs.NumberLaws.{digits_of-number}
-use Rattle.asn1_bits.specs.ViewLaws.{length-list_of}
+use Rattle.asn1_bits.specs.Laws.NumberLaws.{digits_of-number}
+use Rattle.asn1_bits.specs.Laws.ViewLaws.{length-list_of}
 use Rattle.asn1_bits.proofs.bit_str.BitStr.word_unless_near_end.Goals as goal
 
 pub returns-then-self-gt57 : goal.returns-then-self-gt57

@@ -7,7 +7,7 @@ use Rattle.asn1_bits.specs.BitLists.{words_fed}
 use Rattle.asn1_bits.specs.BitStr.{view_of, bits_of}
 use Rattle.asn1_bits.specs.View.{View}
 use Rattle.asn1_bits.proofs.HashLemmas.{fed-none, fed-more, number-word, number-last}
-use Rattle.asn1_bits.specs.ViewLaws.{length-list_of}
+use Rattle.asn1_bits.specs.Laws.ViewLaws.{length-list_of}
 use Rattle.asn1_bits.proofs.bit_str.BitStrHash.hash.Goals as goal
 
 pub loop-k-init : goal.loop-k-init

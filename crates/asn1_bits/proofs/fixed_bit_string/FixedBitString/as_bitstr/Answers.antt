@@ -1,7 +1,7 @@
 use Rattle.std.proofs.Common.{rules, ◌≡◌, ℕ, ◌-◌, ◌*◌, false, ◌++◌, length, take, replicate, ap, ◌∙◌, arith}
 use Rattle.asn1_bits.specs.Bits.{bits}
 use Rattle.asn1_bits.specs.View.{View}
-use Rattle.asn1_bits.specs.DigitLaws.{length-bits}
+use Rattle.asn1_bits.specs.Laws.DigitLaws.{length-bits}
 use Rattle.asn1_bits.proofs.ZeroLemmas.{zeros_behind}
 use Rattle.asn1_bits.proofs.fixed_bit_string.FixedBitString.as_bitstr.Goals as goal
 

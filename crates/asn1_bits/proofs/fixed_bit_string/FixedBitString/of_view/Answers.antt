@@ -3,7 +3,7 @@ use Rattle.asn1_bits.specs.Bits.{bits, ored}
 use Rattle.asn1_bits.specs.BitStr.{view_of, bits_of}
 use Rattle.asn1_bits.proofs.BufferLemmas.{bits-zeros}
 use Rattle.asn1_bits.proofs.RoomLemmas.{zeros-filled}
-use Rattle.asn1_bits.specs.ViewLaws.{length-list_of}
+use Rattle.asn1_bits.specs.Laws.ViewLaws.{length-list_of}
 use Rattle.asn1_bits.proofs.fixed_bit_string.FixedBitString.of_view.Goals as goal
 
 pub invariant_of-result : goal.invariant_of-result

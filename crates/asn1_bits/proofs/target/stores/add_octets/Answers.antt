@@ -2,8 +2,8 @@ use Rattle.std.proofs.Common.{◌≡◌, ℕ, ◌/◌, ◌<◌, Bool, List, [], 
 use Rattle.std.specs.Int.{to_le_bytes, w64}
 use Rattle.std.proofs.lemmas.Nat.{le_bytes_8, or_lt}
 use Rattle.asn1_bits.specs.Bits.{bits, digits, ored}
-use Rattle.asn1_bits.specs.ByteLaws.{bits-bytes}
-use Rattle.asn1_bits.specs.DigitLaws.{length-digits, length-bits}
+use Rattle.asn1_bits.specs.Laws.ByteLaws.{bits-bytes}
+use Rattle.asn1_bits.specs.Laws.DigitLaws.{length-digits, length-bits}
 use Rattle.asn1_bits.proofs.EightLemmas.{words-or, eight-ored, begun-bits, begun-small, begun-sum, turned-octets}
 use Rattle.asn1_bits.proofs.PutLemmas.{zeros-behind_begun}
 use Rattle.asn1_bits.proofs.target.stores.add_octets.Goals as goal

@@ -1,7 +1,7 @@
 use Rattle.std.proofs.Common.{take, drop, sym, arith}
 use Rattle.std.proofs.lemmas.List.{length-take}
 use Rattle.asn1_bits.specs.Bits.{bits}
-use Rattle.asn1_bits.specs.DigitLaws.{length-bits}
+use Rattle.asn1_bits.specs.Laws.DigitLaws.{length-bits}
 use Rattle.asn1_bits.proofs.EightLemmas.{words-or, eight-ored}
 use Rattle.asn1_bits.proofs.target.stores.or_eight.Goals as goal
 

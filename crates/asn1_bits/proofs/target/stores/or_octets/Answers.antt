@@ -1,7 +1,7 @@
 use Rattle.std.proofs.Common.{◌≡◌, ℕ, ◌*◌, List, length, ap, ◌∙◌, arith}
 use Rattle.std.proofs.lemmas.List.{take_all}
 use Rattle.asn1_bits.specs.Bits.{bits, ored}
-use Rattle.asn1_bits.specs.ByteLaws.{bits-bytes}
+use Rattle.asn1_bits.specs.Laws.ByteLaws.{bits-bytes}
 use Rattle.asn1_bits.proofs.target.stores.or_octets.Goals as goal
 
 pub returns : goal.returns

@@ -1,7 +1,7 @@
 use Rattle.std.proofs.Common.{◌≡◌, ℕ, ◌+◌, ◌-◌, ◌*◌, ◌/◌, ◌%◌, ◌^◌, ap, ◌∙◌, arith}
 use Rattle.std.proofs.Math.Nat.{div-one}
 use Rattle.asn1_bits.specs.Bits.{bits, digits, ored}
-use Rattle.asn1_bits.specs.DigitLaws.{length-bits}
+use Rattle.asn1_bits.specs.Laws.DigitLaws.{length-bits}
 use Rattle.asn1_bits.proofs.PutLemmas.{placed-two}
 use Rattle.asn1_bits.proofs.WindowLemmas.{ored-no_digits, up-down, up-again}
 use Rattle.asn1_bits.proofs.target.stores.or_word.Goals as goal

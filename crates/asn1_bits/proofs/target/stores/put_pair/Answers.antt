@@ -2,7 +2,7 @@ use Rattle.std.proofs.Common.{◌≡◌, ℕ, ◌+◌, ◌-◌, ◌*◌, ◌/◌
 use Rattle.std.specs.Prelude.{bit_and}
 use Rattle.std.proofs.lemmas.Nat.{shr_below}
 use Rattle.asn1_bits.specs.Bits.{bits, digits, ored, IsZeroFrom}
-use Rattle.asn1_bits.specs.DigitLaws.{length-bits, length-digits}
+use Rattle.asn1_bits.specs.Laws.DigitLaws.{length-bits, length-digits}
 use Rattle.asn1_bits.proofs.PutLemmas.{put-moved, moved-below, put-eight, zeros-past, placed-two, digits-lowest}
 use Rattle.asn1_bits.proofs.ZeroLemmas.{zeros-later}
 use Rattle.asn1_bits.proofs.target.stores.put_pair.Goals as goal

@@ -1,6 +1,6 @@
 use Rattle.std.proofs.Common.{◌%◌, arith}
 use Rattle.asn1_bits.specs.Bits.{bits}
-use Rattle.asn1_bits.specs.DigitLaws.{length-bits}
+use Rattle.asn1_bits.specs.Laws.DigitLaws.{length-bits}
 use Rattle.asn1_bits.proofs.PutLemmas.{put-moved, moved-below}
 use Rattle.asn1_bits.proofs.target.stores.put_word.Goals as goal
 

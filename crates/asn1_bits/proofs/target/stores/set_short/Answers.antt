@@ -1,6 +1,6 @@
 use Rattle.std.proofs.Common.{Bool, List, ap, ◌∙◌, arith}
 use Rattle.asn1_bits.specs.Bits.{digits, bits, ored}
-use Rattle.asn1_bits.specs.DigitLaws.{length-digits, length-bits}
+use Rattle.asn1_bits.specs.Laws.DigitLaws.{length-digits, length-bits}
 use Rattle.asn1_bits.proofs.OverwriteLemmas.{overwritten-ored}
 use Rattle.asn1_bits.proofs.target.stores.set_short.Goals as goal
 

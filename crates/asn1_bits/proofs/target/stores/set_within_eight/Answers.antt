@@ -1,6 +1,6 @@
 use Rattle.std.proofs.Common.{ℕ, List, ◌/◌, length, refl, ap, ◌∙◌}
 use Rattle.asn1_bits.specs.Bits.{bits}
-use Rattle.asn1_bits.specs.ByteLaws.{bits-bytes}
+use Rattle.asn1_bits.specs.Laws.ByteLaws.{bits-bytes}
 use Rattle.asn1_bits.proofs.OverwriteLemmas.{word-written}
 use Rattle.asn1_bits.proofs.target.stores.set_within_eight.Goals as goal
 

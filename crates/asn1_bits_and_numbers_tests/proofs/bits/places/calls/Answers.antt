@@ -1,7 +1,7 @@
 use Rattle.std.proofs.Common.{ℕ, ap, arith}
 use Rattle.std.proofs.lemmas.List.{length-replicate}
 use Rattle.asn1_bits.specs.View.{View}
-use Rattle.asn1_bits.specs.DigitLaws.{length-bits}
+use Rattle.asn1_bits.specs.Laws.DigitLaws.{length-bits}
 use Rattle.asn1_bits_and_numbers_tests.proofs.bits.places.calls.Goals as goal
 
 pub place_bits-requires-clause-within : goal.place_bits-requires-clause-within

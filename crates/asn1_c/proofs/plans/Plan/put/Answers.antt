@@ -1,7 +1,7 @@
 use Rattle.std.proofs.Common.{◌∙◌, ◌+◌, ℕ, refl, ap, arith}
 use Rattle.asn1_bits.specs.Bits.{bits, digits, overwritten}
 use Rattle.asn1_bits.specs.BitStr.{view_of}
-use Rattle.asn1_bits.specs.DigitLaws.{length-bits}
+use Rattle.asn1_bits.specs.Laws.DigitLaws.{length-bits}
 use Rattle.asn1_c.proofs.PlanLemmas.{length-planned, put_all, view_cut}
 use Rattle.asn1_c.proofs.plans.Plan.put.Goals as goal
 

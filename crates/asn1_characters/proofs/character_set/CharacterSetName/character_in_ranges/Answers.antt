@@ -3,7 +3,7 @@ use Rattle.std.proofs.lemmas.List.{take_all}
 use Rattle.std.proofs.lemmas.Option.{slice_get_past}
 use Rattle.std.specs.List.{slice_get, flat_map}
 use Rattle.asn1_characters.specs.Sets.{characters_between}
-use Rattle.asn1_characters.specs.TableLaws.{counted, length_counted}
+use Rattle.asn1_characters.specs.Laws.TableLaws.{counted, length_counted}
 use Rattle.asn1_characters.proofs.PlaceLemmas.{at_range, base_is}
 use Rattle.asn1_characters.proofs.character_set.CharacterSetName.character_in_ranges.Goals as goal
 

@@ -1,6 +1,6 @@
 use Rattle.std.proofs.Common.{sym}
 use Rattle.asn1_characters.specs.declared.character_set.CharacterSetName.TheVariants.{Bmp, General, Graphic, IA5, Numeric, Printable, Teletex, Visible}
-use Rattle.asn1_characters.specs.TableLaws.{length-base_set}
+use Rattle.asn1_characters.specs.Laws.TableLaws.{length-base_set}
 use Rattle.asn1_characters.proofs.character_set.CharacterSetName.count.Goals as goal
 
 pub returns-in-Bmp : goal.returns-in-Bmp

@@ -1,6 +1,6 @@
 use Rattle.std.proofs.Common.{◌<◌, ◌&&◌, ◌||◌, leb, nat_eq, ℕ, true, refl, sym, ◌∙◌, arith, inl, inr}
 use Rattle.asn1_characters.specs.Sets.{ranges_of}
-use Rattle.asn1_characters.specs.SetLaws.{has_in_base}
+use Rattle.asn1_characters.specs.Laws.SetLaws.{has_in_base}
 use Rattle.asn1_characters.specs.declared.character_set.CharacterSetName.TheVariants.{Bmp, General, Graphic, IA5, Numeric, Printable, Teletex, Visible}
 use Rattle.asn1_characters.proofs.WordLemmas.{same_below, is_printable}
 use Rattle.asn1_characters.proofs.character_set.CharacterSetName.has_octet.Goals as goal

@@ -2,8 +2,8 @@ use Rattle.std.proofs.Common.{◌≡◌, ◌+◌, ◌-◌, false, get_or, take, 
 use Rattle.std.proofs.lemmas.List.{take_all}
 use Rattle.std.specs.List.{slice_get, flat_map}
 use Rattle.asn1_characters.specs.Sets.{characters_between}
-use Rattle.asn1_characters.specs.SetLaws.{lies_in, has_in_base}
-use Rattle.asn1_characters.specs.TableLaws.{counted}
+use Rattle.asn1_characters.specs.Laws.SetLaws.{lies_in, has_in_base}
+use Rattle.asn1_characters.specs.Laws.TableLaws.{counted}
 use Rattle.asn1_characters.proofs.PlaceLemmas.{at_range, base_is}
 use Rattle.asn1_characters.proofs.character_set.CharacterSetName.place_in_ranges.Goals as goal
 

@@ -1,6 +1,6 @@
 use Rattle.std.proofs.Common.{◌≡◌, false, take}
-use Rattle.asn1_characters.specs.SetLaws.{lies_in}
-use Rattle.asn1_characters.specs.TableLaws.{counted}
+use Rattle.asn1_characters.specs.Laws.SetLaws.{lies_in}
+use Rattle.asn1_characters.specs.Laws.TableLaws.{counted}
 use Rattle.asn1_characters.proofs.character_set.CharacterSetName.place_in_ranges.Given as goal
 
 abbrev pub invariant-loop-range : goal.invariant-loop-range

@@ -1,6 +1,6 @@
 use Rattle.std.proofs.Common.{arith}
 use Rattle.std.proofs.lemmas.Grind.{common_steps}
-use Rattle.asn1_characters.specs.SetLaws.{no_larger}
+use Rattle.asn1_characters.specs.Laws.SetLaws.{no_larger}
 use Rattle.asn1_characters.proofs.character_words.CharacterWords.of.Goals as goal
 
 pub with-words-requires : goal.with-words-requires

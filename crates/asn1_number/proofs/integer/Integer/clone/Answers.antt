@@ -2,8 +2,8 @@ use Rattle.std.proofs.Common.{◌≡◌, sym, ap, subst, ◌∙◌}
 use Rattle.asn1_number.specs.Octets.{signed}
 use Rattle.asn1_number.specs.Forms.{number_in, IsOneForm}
 use Rattle.asn1_number.specs.Readings.{FitsI128}
-use Rattle.asn1_number.specs.OctetLaws.{nine_bits_from_shortest}
-use Rattle.asn1_number.specs.ReadingLaws.{past_sixteen}
+use Rattle.asn1_number.specs.Laws.OctetLaws.{nine_bits_from_shortest}
+use Rattle.asn1_number.specs.Laws.ReadingLaws.{past_sixteen}
 use Rattle.asn1_number.proofs.integer.Integer.clone.Goals as goal
 
 pub returns-in_default-clause-memory : goal.returns-in_default-clause-memory

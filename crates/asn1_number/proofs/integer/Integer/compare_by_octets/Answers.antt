@@ -1,6 +1,6 @@
 use Rattle.std.proofs.Common.{ap, ◌∙◌}
 use Rattle.asn1_number.specs.Order.{octets_cmp}
-use Rattle.asn1_number.specs.OctetOrderLaws.{shortest_order}
+use Rattle.asn1_number.specs.Laws.OctetOrderLaws.{shortest_order}
 use Rattle.asn1_number.proofs.integer.Integer.compare_by_octets.Goals as goal
 
 pub returns : goal.returns

@@ -1,7 +1,7 @@
 use Rattle.std.proofs.Common.{rules, arith, ◌≡◌, refl}
 use Rattle.asn1_number.specs.Octets.{signed}
-use Rattle.asn1_number.specs.OctetLaws.{nine_bits_from_shortest}
-use Rattle.asn1_number.specs.ReadingLaws.{past_sixteen}
+use Rattle.asn1_number.specs.Laws.OctetLaws.{nine_bits_from_shortest}
+use Rattle.asn1_number.specs.Laws.ReadingLaws.{past_sixteen}
 use Rattle.asn1_number.proofs.integer.Integer.from_long_octets_in_memory.Goals as goal
 
 pub returns-in_default-clause-memory : goal.returns-in_default-clause-memory

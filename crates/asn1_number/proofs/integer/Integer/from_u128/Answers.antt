@@ -1,7 +1,7 @@
 use Rattle.std.proofs.Common.{rules, ◌≡◌, ◌<◌, ◌^◌, pos, ap, ◌∙◌}
 use Rattle.std.specs.Int.{to_be_bytes, w128}
 use Rattle.asn1_number.specs.Octets.{unsigned}
-use Rattle.asn1_number.specs.WidthLaws.{unsigned-bytes}
+use Rattle.asn1_number.specs.Laws.WidthLaws.{unsigned-bytes}
 use Rattle.asn1_number.proofs.integer.Integer.from_u128.Goals as goal
 
 pub returns-clause-value : goal.returns-clause-value

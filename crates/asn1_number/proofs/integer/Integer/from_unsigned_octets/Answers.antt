@@ -5,9 +5,9 @@ use Rattle.std.specs.Int.{w128}
 use Rattle.asn1_number.specs.declared.error.IntegerError.TheVariants.{Memory}
 use Rattle.asn1_number.specs.Octets.{signed}
 use Rattle.asn1_number.specs.Readings.{FitsI128}
-use Rattle.asn1_number.specs.OctetLaws.{octets_from_places, copy_is_shortest, nine_bits_from_shortest}
-use Rattle.asn1_number.specs.WidthLaws.{fits_by_parts}
-use Rattle.asn1_number.specs.ReadingLaws.{low_value, zero_in_front, fifteen_fit, past_sixteen}
+use Rattle.asn1_number.specs.Laws.OctetLaws.{octets_from_places, copy_is_shortest, nine_bits_from_shortest}
+use Rattle.asn1_number.specs.Laws.WidthLaws.{fits_by_parts}
+use Rattle.asn1_number.specs.Laws.ReadingLaws.{low_value, zero_in_front, fifteen_fit, past_sixteen}
 use Rattle.asn1_number.proofs.integer.Integer.from_unsigned_octets.Goals as goal
 
 pub returns-then-octets-lt128-clause-value : goal.returns-then-octets-lt128-clause-value

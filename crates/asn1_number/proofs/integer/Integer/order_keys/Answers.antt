@@ -2,7 +2,7 @@ use Rattle.std.proofs.Common.{rules, sym, ap, subst, ◌∙◌}
 use Rattle.asn1_number.specs.Octets.{IsShortest}
 use Rattle.asn1_number.specs.Order.{octets_cmp}
 use Rattle.asn1_number.specs.Forms.{number_in, IsOneForm}
-use Rattle.asn1_number.specs.OctetOrderLaws.{shortest_order}
+use Rattle.asn1_number.specs.Laws.OctetOrderLaws.{shortest_order}
 use Rattle.asn1_number.proofs.integer.Integer.order_keys.Goals as goal
 
 pub returns-in-Shortest-Shortest : goal.returns-in-Shortest-Shortest

@@ -3,7 +3,7 @@ use Rattle.std.proofs.lemmas.List.{length-drop}
 use Rattle.std.specs.List.{flat_map}
 use Rattle.asn1_number.specs.Octets.{signed, IsShortest}
 use Rattle.asn1_number.specs.Forms.{number_in, IsOneForm}
-use Rattle.asn1_number.specs.OctetLaws.{shortest_once}
+use Rattle.asn1_number.specs.Laws.OctetLaws.{shortest_once}
 use Rattle.asn1_number.proofs.integer.Integer.signed_len.Goals as goal
 
 pub returns-in-Inline : goal.returns-in-Inline

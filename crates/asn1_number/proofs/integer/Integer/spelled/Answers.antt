@@ -3,8 +3,8 @@ use Rattle.std.proofs.lemmas.Int.{of_z-to_z}
 use Rattle.std.specs.Int.{to_be_bytes, w64, w128}
 use Rattle.asn1_number.specs.Octets.{signed, IsShortest}
 use Rattle.asn1_number.specs.Shortest.{shortest_octets}
-use Rattle.asn1_number.specs.ShortestLaws.{shortest_octets_are}
-use Rattle.asn1_number.specs.WidthLaws.{length-bytes, signed-bytes}
+use Rattle.asn1_number.specs.Laws.ShortestLaws.{shortest_octets_are}
+use Rattle.asn1_number.specs.Laws.WidthLaws.{length-bytes, signed-bytes}
 use Rattle.asn1_number.proofs.SpellingLemmas.{two_words, end_of_word, residue_128}
 use Rattle.asn1_number.proofs.WordLemmas.{two_halves}
 use Rattle.asn1_number.proofs.integer.Integer.spelled.Goals as goal

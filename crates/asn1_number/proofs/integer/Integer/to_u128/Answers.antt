@@ -2,7 +2,7 @@ use Rattle.std.proofs.Common.{rules, arith, ◌≡◌, ◌-◌, length, drop, ta
 use Rattle.std.proofs.lemmas.Grind.{common_steps}
 use Rattle.asn1_number.specs.Octets.{signed}
 use Rattle.asn1_number.specs.Forms.{number_in, IsOneForm}
-use Rattle.asn1_number.specs.ReadingLaws.{spells_no_u128, spells_u128}
+use Rattle.asn1_number.specs.Laws.ReadingLaws.{spells_no_u128, spells_u128}
 use Rattle.asn1_number.proofs.integer.Integer.to_u128.Goals as goal
 
 pub returns-in-0 : goal.returns-in-0

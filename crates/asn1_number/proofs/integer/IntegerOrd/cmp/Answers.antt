@@ -1,6 +1,6 @@
 use Rattle.std.proofs.Common.{rules, ◌≡◌, sym, ◌∙◌}
 use Rattle.std.specs.Ordering.{int_cmp}
-use Rattle.asn1_number.specs.OctetOrderLaws.{shortest_order}
+use Rattle.asn1_number.specs.Laws.OctetOrderLaws.{shortest_order}
 use Rattle.asn1_number.proofs.integer.IntegerOrd.cmp.Goals as goal
 
 pub returns-clause-octets : goal.returns-clause-octets

@@ -6,7 +6,7 @@ use Rattle.asn1_oid.specs.declared.contents.ContentsError.TheVariants.{Malformed
 use Rattle.asn1_oid.specs.declared.object_identifier.ObjectIdentifier.{ObjectIdentifier}
 use Rattle.asn1_oid.proofs.ReadingLemmas.{large_iff, none_iff, some_arcs, none_large, not_malformed, not_refused}
 use Rattle.asn1_oid.specs.Reading.{contents_reading}
-use Rattle.asn1_oid.specs.ReadingLaws.{no_want_of_memory, arcs_from_reading, one_list_of_arcs}
+use Rattle.asn1_oid.specs.Laws.ReadingLaws.{no_want_of_memory, arcs_from_reading, one_list_of_arcs}
 use Rattle.asn1_oid.proofs.object_identifier.ObjectIdentifier.from_contents.Goals as goal
 
 abbrev Answer : Type 0

@@ -1,7 +1,7 @@
 use Rattle.std.proofs.Common.{◌≡◌, ◌++◌, List, ℕ, length, take, drop, ap, sym, subst, ◌∙◌, arith}
 use Rattle.asn1_oid.specs.Arcs.{IsValidArcs}
 use Rattle.asn1_oid.specs.DottedText.{IsDottedText}
-use Rattle.asn1_oid.specs.DottedLaws.{one_text}
+use Rattle.asn1_oid.specs.Laws.DottedLaws.{one_text}
 use Rattle.asn1_oid.proofs.ParseLemmas.{filled}
 use Rattle.asn1_oid.proofs.object_identifier.ObjectIdentifier.parse.Goals as goal
 use Rattle.asn1_oid.proofs.object_identifier.ObjectIdentifier.parse.Goals.{In-Some-parse_arcs as Parsed}

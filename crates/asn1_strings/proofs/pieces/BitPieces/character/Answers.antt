@@ -1,7 +1,7 @@
 use Rattle.std.proofs.Common.{length, arith, ap, sym, ◌∙◌}
 use Rattle.asn1_bits.specs.BitStr.{bits_of}
 use Rattle.asn1_bits.specs.Bits.{number}
-use Rattle.asn1_strings.specs.PieceLaws.{piece_within}
+use Rattle.asn1_strings.specs.Laws.PieceLaws.{piece_within}
 use Rattle.asn1_strings.proofs.PieceLemmas.{get_or-pieces, length-numbers}
 use Rattle.asn1_strings.proofs.pieces.BitPieces.character.Goals as goal
 

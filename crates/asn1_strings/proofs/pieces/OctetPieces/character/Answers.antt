@@ -1,7 +1,7 @@
 use Rattle.std.proofs.Common.{ap, sym, ◌∙◌, arith}
 use Rattle.std.proofs.lemmas.List.{length-map, length-take}
 use Rattle.asn1_strings.specs.Pieces.{pieces, unsigned}
-use Rattle.asn1_strings.specs.PieceLaws.{length-pieces}
+use Rattle.asn1_strings.specs.Laws.PieceLaws.{length-pieces}
 use Rattle.asn1_strings.proofs.PieceLemmas.{get_or-pieces}
 use Rattle.asn1_strings.proofs.pieces.OctetPieces.character.Goals as goal
 

@@ -1,5 +1,5 @@
 use Rattle.std.proofs.Common.{rules}
-use Rattle.asn1_characters.specs.TableLaws.{few_in_base}
+use Rattle.asn1_characters.specs.Laws.TableLaws.{few_in_base}
 use Rattle.asn1_strings.proofs.static_permitted_alphabet.StaticPermittedAlphabet.try_from_permitted_alphabet.Goals as goal
 
 pub string_of_bits_in-requires-in-None : goal.string_of_bits_in-requires-in-None

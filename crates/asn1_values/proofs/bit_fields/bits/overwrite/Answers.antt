@@ -1,6 +1,6 @@
 use Rattle.std.proofs.Common.{◌*◌, length, refl}
 use Rattle.asn1_bits.specs.BitStr.{view_of, bits_of}
-use Rattle.asn1_bits.specs.ViewLaws.{length-list_of}
+use Rattle.asn1_bits.specs.Laws.ViewLaws.{length-list_of}
 use Rattle.asn1_values.specs.Fields.{Bits}
 use Rattle.asn1_values.proofs.OverLemmas.{reached}
 use Rattle.asn1_values.proofs.bit_fields.bits.overwrite.Goals as goal

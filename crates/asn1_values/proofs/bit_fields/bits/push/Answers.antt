@@ -1,7 +1,7 @@
 use Rattle.std.proofs.Common.{refl}
 use Rattle.asn1_bits.specs.BitAppender.{room}
 use Rattle.asn1_bits.specs.BitStr.{view_of, bits_of}
-use Rattle.asn1_bits.specs.ViewLaws.{length-list_of}
+use Rattle.asn1_bits.specs.Laws.ViewLaws.{length-list_of}
 use Rattle.asn1_values.specs.Fields.{Bits}
 use Rattle.asn1_values.proofs.GatherLemmas.{space_behind, width_behind, room_behind, field_behind}
 use Rattle.asn1_values.proofs.bit_fields.bits.push.Goals as goal

@@ -1,7 +1,7 @@
 use Rattle.std.proofs.Common.{refl}
 use Rattle.asn1_bits.specs.BitAppender.{room}
 use Rattle.asn1_bits.specs.BitStr.{view_of, bits_of}
-use Rattle.asn1_bits.specs.ViewLaws.{length-list_of}
+use Rattle.asn1_bits.specs.Laws.ViewLaws.{length-list_of}
 use Rattle.asn1_values.specs.Fields.{Bits}
 use Rattle.asn1_values.proofs.SpellingLemmas.{space_of, list_pushed, one_pushed}
 use Rattle.asn1_values.proofs.bit_fields.bits.push_few.Goals as goal

@@ -1,5 +1,5 @@
 use Rattle.std.proofs.Common.{refl, arith}
-use Rattle.asn1_number.specs.LawsHold.{one_shortest_list}
+use Rattle.asn1_number.specs.Laws.LawsHold.{one_shortest_list}
 use Rattle.asn1_values.proofs.SpellingLemmas.{counted_fits}
 use Rattle.asn1_values.proofs.bit_fields.counted_integer.len_or_misfit.Goals as goal
 

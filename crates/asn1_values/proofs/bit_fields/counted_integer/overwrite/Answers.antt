@@ -1,7 +1,7 @@
 use Rattle.std.proofs.Common.{ℕ, ◌*◌, ◌≤◌, length, subst, arith}
 use Rattle.asn1_bits.specs.Bits.{bits, digits}
-use Rattle.asn1_bits.specs.DigitLaws.{length-bits, length-digits}
-use Rattle.asn1_number.specs.LawsHold.{one_shortest_list}
+use Rattle.asn1_bits.specs.Laws.DigitLaws.{length-bits, length-digits}
+use Rattle.asn1_number.specs.Laws.LawsHold.{one_shortest_list}
 use Rattle.asn1_values.specs.Steps.{WritesOver}
 use Rattle.asn1_values.proofs.OverLemmas.{over_same, counted_reached, counted_over}
 use Rattle.asn1_values.proofs.bit_fields.counted_integer.overwrite.Goals as goal

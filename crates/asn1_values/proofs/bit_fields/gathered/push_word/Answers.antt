@@ -1,5 +1,5 @@
 use Rattle.asn1_bits.specs.Bits.{digits}
-use Rattle.asn1_bits.specs.DigitLaws.{length-digits}
+use Rattle.asn1_bits.specs.Laws.DigitLaws.{length-digits}
 use Rattle.asn1_values.proofs.SpellingLemmas.{list_pushed}
 use Rattle.asn1_values.proofs.bit_fields.gathered.push_word.Goals as goal
 

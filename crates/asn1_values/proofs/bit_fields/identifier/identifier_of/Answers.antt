@@ -1,9 +1,9 @@
 use Rattle.std.proofs.Common.{◌/◌, ap, sym, ◌∙◌, arith}
 use Rattle.asn1_bits.specs.View.{View, list_of}
 use Rattle.asn1_bits.specs.BitStr.{view_of, bits_of}
-use Rattle.asn1_bits.specs.ViewLaws.{length-list_of}
+use Rattle.asn1_bits.specs.Laws.ViewLaws.{length-list_of}
 use Rattle.asn1_oid.specs.Reading.{contents_reading}
-use Rattle.asn1_oid.specs.ReadingLaws.{contents_read}
+use Rattle.asn1_oid.specs.Laws.ReadingLaws.{contents_read}
 use Rattle.asn1_values.specs.Walk.{octets_of}
 use Rattle.asn1_values.proofs.OctetLemmas.{octets-octets_of}
 use Rattle.asn1_values.proofs.bit_fields.identifier.identifier_of.Goals as goal

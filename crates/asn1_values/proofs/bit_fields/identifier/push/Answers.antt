@@ -1,7 +1,7 @@
 use Rattle.std.proofs.Common.{◌*◌, length, refl}
 use Rattle.asn1_bits.specs.Bits.{bits}
 use Rattle.asn1_bits.specs.BitAppender.{room}
-use Rattle.asn1_bits.specs.DigitLaws.{length-bits}
+use Rattle.asn1_bits.specs.Laws.DigitLaws.{length-bits}
 use Rattle.asn1_values.specs.Fields.{Identifier}
 use Rattle.asn1_values.proofs.SpellingLemmas.{space_of, one_pushed}
 use Rattle.asn1_values.proofs.bit_fields.identifier.push.Goals as goal

@@ -1,7 +1,7 @@
 use Rattle.std.proofs.Common.{◌≡◌, ℕ, ◌*◌, ◌/◌, length, take, Ok, ap, subst, arith}
 use Rattle.asn1_bits.specs.BitReader.{view_left, bits_left}
 use Rattle.asn1_bits.specs.View.{View}
-use Rattle.asn1_bits.specs.ViewLaws.{length-list_of}
+use Rattle.asn1_bits.specs.Laws.ViewLaws.{length-list_of}
 use Rattle.asn1_oid.specs.Reading.{contents_reading}
 use Rattle.asn1_values.specs.Fields as plain
 use Rattle.asn1_values.specs.Walk.{field_at, octets_of}

@@ -1,4 +1,4 @@
-use Rattle.asn1_number.specs.LawsHold.{one_shortest_list}
+use Rattle.asn1_number.specs.Laws.LawsHold.{one_shortest_list}
 use Rattle.asn1_values.proofs.SpellingLemmas.{integer_fits}
 use Rattle.asn1_values.proofs.bit_fields.integer.len_or_misfit.Goals as goal
 

@@ -1,6 +1,6 @@
 use Rattle.std.proofs.Common.{◌*◌, length, refl}
 use Rattle.asn1_bits.specs.Bits.{bits}
-use Rattle.asn1_bits.specs.DigitLaws.{length-bits}
+use Rattle.asn1_bits.specs.Laws.DigitLaws.{length-bits}
 use Rattle.asn1_values.specs.Fields.{Integer}
 use Rattle.asn1_values.proofs.OverLemmas.{reached}
 use Rattle.asn1_values.proofs.bit_fields.integer.overwrite.Goals as goal

@@ -2,11 +2,11 @@ use Rattle.std.proofs.Common.{ℕ, ℤ, Bool, List, ◌≡◌, ◌*◌, ap, subs
 use Rattle.std.specs.Int.{w128}
 use mir.Val.{SFits, of_z, to_z}
 use Rattle.asn1_bits.specs.Bits.{bits, digits}
-use Rattle.asn1_number.specs.LawsHold.{one_shortest_list}
-use Rattle.asn1_number.specs.WidthLaws.{sixteen_fit}
-use Rattle.asn1_integer.specs.WordLaws.{sixteen_at_most, lowest_octets}
+use Rattle.asn1_number.specs.Laws.LawsHold.{one_shortest_list}
+use Rattle.asn1_number.specs.Laws.WidthLaws.{sixteen_fit}
+use Rattle.asn1_integer.specs.Laws.WordLaws.{sixteen_at_most, lowest_octets}
 use Rattle.asn1_values.specs.Steps.{WritesOver}
-use Rattle.asn1_values.specs.SpellingLaws.{same_shortest}
+use Rattle.asn1_values.specs.Laws.SpellingLaws.{same_shortest}
 use Rattle.asn1_values.proofs.bit_fields.integer.overwrite_shortest.Goals as goal
 
 pub overflow_mul-signed_len : goal.overflow_mul-signed_len

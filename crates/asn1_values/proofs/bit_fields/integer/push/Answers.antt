@@ -1,8 +1,8 @@
 use Rattle.std.proofs.Common.{◌*◌, length, refl}
 use Rattle.asn1_bits.specs.BitAppender.{room}
 use Rattle.asn1_bits.specs.Bits.{bits}
-use Rattle.asn1_bits.specs.DigitLaws.{length-bits}
-use Rattle.asn1_number.specs.LawsHold.{one_shortest_list}
+use Rattle.asn1_bits.specs.Laws.DigitLaws.{length-bits}
+use Rattle.asn1_number.specs.Laws.LawsHold.{one_shortest_list}
 use Rattle.asn1_values.specs.Fields.{Integer}
 use Rattle.asn1_values.proofs.SpellingLemmas.{space_of, one_pushed}
 use Rattle.asn1_values.proofs.bit_fields.integer.push.Goals as goal

@@ -1,8 +1,8 @@
 use Rattle.std.proofs.Common.{Bool, List, ◌*◌, ◌++◌, length, ap, ◌∙◌}
 use Rattle.asn1_bits.specs.Bits.{bits}
 use Rattle.asn1_bits.specs.BitAppender.{bits_written}
-use Rattle.asn1_bits.specs.DigitLaws.{length-bits}
-use Rattle.asn1_values.specs.SpellingLaws.{same_shortest}
+use Rattle.asn1_bits.specs.Laws.DigitLaws.{length-bits}
+use Rattle.asn1_values.specs.Laws.SpellingLaws.{same_shortest}
 use Rattle.asn1_values.proofs.SpellingLemmas.{list_pushed}
 use Rattle.asn1_values.proofs.bit_fields.integer.push_long.Goals as goal
 

@@ -3,10 +3,10 @@ use Rattle.std.specs.Int.{w128}
 use mir.Val.{SFits, of_z, to_z}
 use Rattle.asn1_bits.specs.Bits.{bits, digits}
 use Rattle.asn1_bits.specs.BitAppender.{bits_written}
-use Rattle.asn1_bits.specs.DigitLaws.{length-bits}
-use Rattle.asn1_number.specs.LawsHold.{one_shortest_list}
-use Rattle.asn1_number.specs.WidthLaws.{sixteen_fit}
-use Rattle.asn1_integer.specs.WordLaws.{sixteen_at_most, lowest_octets}
+use Rattle.asn1_bits.specs.Laws.DigitLaws.{length-bits}
+use Rattle.asn1_number.specs.Laws.LawsHold.{one_shortest_list}
+use Rattle.asn1_number.specs.Laws.WidthLaws.{sixteen_fit}
+use Rattle.asn1_integer.specs.Laws.WordLaws.{sixteen_at_most, lowest_octets}
 use Rattle.asn1_values.proofs.SpellingLemmas.{list_pushed}
 use Rattle.asn1_values.proofs.bit_fields.integer.push_shortest.Goals as goal
 

@@ -1,6 +1,6 @@
 use Rattle.std.proofs.Common.{◌*◌, length, refl}
 use Rattle.asn1_bits.specs.Bits.{digits}
-use Rattle.asn1_bits.specs.DigitLaws.{length-digits}
+use Rattle.asn1_bits.specs.Laws.DigitLaws.{length-digits}
 use Rattle.asn1_values.specs.Fields.{Number}
 use Rattle.asn1_values.proofs.OverLemmas.{reached}
 use Rattle.asn1_values.proofs.bit_fields.number.overwrite.Goals as goal

@@ -1,7 +1,7 @@
 use Rattle.std.proofs.Common.{refl}
 use Rattle.asn1_bits.specs.BitAppender.{room}
 use Rattle.asn1_bits.specs.Bits.{digits}
-use Rattle.asn1_bits.specs.DigitLaws.{length-digits}
+use Rattle.asn1_bits.specs.Laws.DigitLaws.{length-digits}
 use Rattle.asn1_values.specs.Fields.{Number}
 use Rattle.asn1_values.proofs.SpellingLemmas.{space_of, list_pushed, one_pushed}
 use Rattle.asn1_values.proofs.GatherLemmas.{space_behind, width_behind, room_behind, field_behind}

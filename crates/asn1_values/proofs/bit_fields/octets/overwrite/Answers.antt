@@ -1,7 +1,7 @@
 use Rattle.std.proofs.Common.{◌*◌, length, refl}
 use Rattle.asn1_bits.specs.Bits.{bits}
 use Rattle.asn1_bits.specs.Octets.{octets_in}
-use Rattle.asn1_bits.specs.DigitLaws.{length-bits}
+use Rattle.asn1_bits.specs.Laws.DigitLaws.{length-bits}
 use Rattle.asn1_values.specs.Fields.{Octets}
 use Rattle.asn1_values.proofs.OverLemmas.{reached}
 use Rattle.asn1_values.proofs.bit_fields.octets.overwrite.Goals as goal

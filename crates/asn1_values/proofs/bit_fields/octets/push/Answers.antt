@@ -2,7 +2,7 @@ use Rattle.std.proofs.Common.{◌*◌, length, refl, arith}
 use Rattle.asn1_bits.specs.BitAppender.{room}
 use Rattle.asn1_bits.specs.Bits.{bits}
 use Rattle.asn1_bits.specs.Octets.{octets_in}
-use Rattle.asn1_bits.specs.DigitLaws.{length-bits}
+use Rattle.asn1_bits.specs.Laws.DigitLaws.{length-bits}
 use Rattle.asn1_values.specs.Fields.{Octets}
 use Rattle.asn1_values.proofs.GatherLemmas.{space_behind, octets_room, octets_behind}
 use Rattle.asn1_values.proofs.bit_fields.octets.push.Goals as goal

@@ -2,7 +2,7 @@ use Rattle.std.proofs.Common.{◌≡◌, ◌*◌, length, arith, ap, subst, ◌�
 use Rattle.std.specs.Prelude.{◌↔◌}
 use Rattle.std.proofs.lemmas.List.{length-take}
 use Rattle.asn1_bits.specs.BitReader.{bits_left}
-use Rattle.asn1_bits.specs.DigitLaws.{length-bits}
+use Rattle.asn1_bits.specs.Laws.DigitLaws.{length-bits}
 use Rattle.asn1_bits.specs.Octets.{octets_in, IsBorrowed}
 use Rattle.asn1_bits.specs.View.{View, IsAligned}
 use Rattle.asn1_values.specs.declared.bit_fields.field.Field.TheVariants as fields

@@ -1,5 +1,5 @@
 use Rattle.std.proofs.Common.{length, sym}
-use Rattle.asn1_number.specs.LawsHold.{one_shortest_list}
+use Rattle.asn1_number.specs.Laws.LawsHold.{one_shortest_list}
 use Rattle.asn1_alphabets.specs.AlphabetView.{alphabet_of}
 use Rattle.asn1_values.specs.Fields.{OfNumber, OfOctets, OfInteger, OfCharacter, OfIdentifier}
 use Rattle.asn1_values.proofs.OneSpelling.{length-spelled}

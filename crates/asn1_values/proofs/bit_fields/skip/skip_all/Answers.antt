@@ -18,7 +18,7 @@ returns-in_err-skip c =
 pub loop-i-preserved : goal.loop-i-preserved
 loop-i-preserved c =
     examined_more c.args.shapes.now c.loop-i.i c.index-shapes-i.result (bits_left c.loop-i.left)
-    (bits_left c.take_value.new.reader)
+    (bits_left c.skip.new.reader)
     (past_all 0 (fields_at (plain_shapes c.args.shapes.now) (bits_left c.args.reader))) c.loop-i-test.true
     c.index-shapes-i.is c.in_ok-skip.ensures.ok c.loop-i.invariant
 

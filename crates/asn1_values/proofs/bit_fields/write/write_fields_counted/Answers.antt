@@ -1,6 +1,6 @@
 use Rattle.std.proofs.Common.{List, Bool, ◌++◌, ap, ◌∙◌, arith}
 use Rattle.asn1_values.specs.Plain.{plain_fields}
-use Rattle.asn1_values.specs.SpellingLaws.{all_one}
+use Rattle.asn1_values.specs.Laws.SpellingLaws.{all_one}
 use Rattle.asn1_values.proofs.OneRefusal.{only_too_long}
 use Rattle.asn1_values.proofs.bit_fields.write.write_fields_counted.Goals as goal
 

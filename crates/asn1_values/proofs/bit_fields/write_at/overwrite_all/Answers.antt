@@ -1,6 +1,6 @@
 use Rattle.std.proofs.Common.{◌+◌, ◌*◌, ◌≤◌, length, take, drop, arith}
 use Rattle.asn1_bits.specs.Bits.{bits}
-use Rattle.asn1_bits.specs.DigitLaws.{length-bits}
+use Rattle.asn1_bits.specs.Laws.DigitLaws.{length-bits}
 use Rattle.asn1_values.specs.Plain.{plain_fields, plain_field}
 use Rattle.asn1_values.proofs.SpellingLemmas.{cut_of, more_of, field_fits}
 use Rattle.asn1_values.proofs.OverLemmas.{overwrites_none, overwrites_more, reached_now, begins_within}

@@ -4,7 +4,7 @@ use Rattle.asn1_bits.specs.Bits.{bits, overwritten}
 use Rattle.asn1_values.specs.Plain.{plain_fields}
 use Rattle.asn1_values.specs.declared.bit_fields.error.WriteError.{WriteError}
 use Rattle.asn1_values.proofs.OneRefusal.{one_write_at_refusal, only_past}
-use Rattle.asn1_values.specs.SpellingLaws.{all_one}
+use Rattle.asn1_values.specs.Laws.SpellingLaws.{all_one}
 use Rattle.asn1_values.proofs.SpellingLemmas.{names_none}
 use Rattle.asn1_values.proofs.bit_fields.write_at.write_fields_at.Goals as goal
 use Rattle.asn1_values.proofs.bit_fields.write_at.write_fields_at.Goals.{then-end-via-then-end, then-end-via-else-end+then-end-octets}

@@ -2,7 +2,7 @@ use Rattle.std.proofs.Common.{◌≡◌, ℕ, ◌+◌, ◌-◌, ◌*◌, ◌<◌
 use Rattle.std.specs.Prelude.{slice_index}
 use Rattle.std.proofs.lemmas.List.{drop-drop, length-take}
 use Rattle.asn1_bits.specs.Bits.{bits, number}
-use Rattle.asn1_bits.specs.NumberLaws.{number-below}
+use Rattle.asn1_bits.specs.Laws.NumberLaws.{number-below}
 use Rattle.asn1_schema.specs.Laws.NumberLaws.{numbers_count, number_of_index}
 use Rattle.asn1_x691_fields.specs.NumberSources.{numbers_of}
 use Rattle.asn1_x691_fields.specs.declared.number_sources.NumbersAt.{NumbersAt}

@@ -1,9 +1,9 @@
 use Rattle.std.proofs.Common.{◌≡◌, ℕ, ◌+◌, ◌-◌, ◌/◌, ◌^◌, ◌≤◌, Bool, List, drop, length, rules, ap, ◌∙◌, arith}
 use Rattle.std.proofs.lemmas.List.{drop_at}
 use Rattle.asn1_bits.specs.Bits.{bits, digits, ored}
-use Rattle.asn1_bits.specs.ByteLaws.{bits-bytes}
-use Rattle.asn1_bits.specs.DigitLaws.{length-bits, length-digits}
-use Rattle.asn1_bits.specs.NumberLaws.{digits-append}
+use Rattle.asn1_bits.specs.Laws.ByteLaws.{bits-bytes}
+use Rattle.asn1_bits.specs.Laws.DigitLaws.{length-bits, length-digits}
+use Rattle.asn1_bits.specs.Laws.NumberLaws.{digits-append}
 use Rattle.asn1_bits.specs.View.{View}
 use Rattle.asn1_bits_and_numbers_tests.proofs.bits.places.CountedPlaces.place.Goals as goal
 

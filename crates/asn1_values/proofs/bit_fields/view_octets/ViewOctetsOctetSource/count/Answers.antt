@@ -1,6 +1,6 @@
 use Rattle.std.proofs.Common.{◌/◌, sym, arith}
 use Rattle.asn1_bits.specs.BitStr.{view_of, bits_of}
-use Rattle.asn1_bits.specs.ViewLaws.{length-list_of}
+use Rattle.asn1_bits.specs.Laws.ViewLaws.{length-list_of}
 use Rattle.asn1_values.proofs.OctetLemmas.{length-octets_of, octets-octets_of}
 use Rattle.asn1_values.proofs.bit_fields.view_octets.ViewOctetsOctetSource.count.Goals as goal
 

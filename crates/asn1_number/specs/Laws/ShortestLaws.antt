@@ -10,9 +10,9 @@ use lib.Signed.{mag}
 use borrow.Author.Differences.{up, down, mag_is}
 use Rattle.asn1_number.specs.Octets.{IsOctets, signed, IsShortest}
 use Rattle.asn1_number.specs.Shortest.{octets_past_first, residue_at, shortest_octets}
-use Rattle.asn1_number.specs.OctetLaws.{signed_range, one_part, power_step, shortest_once}
-use Rattle.asn1_number.specs.WidthLaws.{signed-bytes, length-bytes, octets_of_bytes}
-use Rattle.asn1_number.specs.ReadingLaws.{cases_le}
+use Rattle.asn1_number.specs.Laws.OctetLaws.{signed_range, one_part, power_step, shortest_once}
+use Rattle.asn1_number.specs.Laws.WidthLaws.{signed-bytes, length-bytes, octets_of_bytes}
+use Rattle.asn1_number.specs.Laws.ReadingLaws.{cases_le}
 
 -- how many of the `turns` numbers from k on are too few
 abbrev past_from : ℕ → ℕ → ℤ → ℕ

@@ -2,7 +2,7 @@
 use Rattle.std.proofs.Common.{ℕ, ◌^◌, ◌<◌}
 use Rattle.asn1_alphabets.specs.Alphabet.{IsCode}
 use Rattle.asn1_alphabets.specs.AlphabetView.{alphabet_of}
-use Rattle.asn1_alphabets.specs.AlphabetLaws.{code_fits}
+use Rattle.asn1_alphabets.specs.Laws.AlphabetLaws.{code_fits}
 use Rattle.asn1_alphabets.specs.declared.alphabet.CharacterAlphabet.{CharacterAlphabet}
 
 -- every code of an alphabet fits its width

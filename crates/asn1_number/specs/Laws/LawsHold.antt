@@ -1,12 +1,12 @@
--- The laws of `specs/Laws`, and each of them in the form that a proof cites.
+-- The laws of `specs/StatedLaws`, and each of them in the form that a proof cites.
 use Rattle.asn1_number.specs.Octets.{signed}
 use Rattle.asn1_number.specs.Shortest.{shortest_octets}
 use Rattle.asn1_number.specs.Readings.{SignedOf, UnsignedOf, Unbounded}
-use Rattle.asn1_number.specs.Laws.{EachNumberHasOneShortestList, ComputedAreShortest, ShortestByNineBits, ShortestKeepOrder, ShortestAreReadBack}
-use Rattle.asn1_number.specs.OctetLaws.{nine_bits_from_shortest, shortest_from_nine_bits}
-use Rattle.asn1_number.specs.OctetOrderLaws.{shortest_order}
-use Rattle.asn1_number.specs.ShortestLaws.{shortest_octets_are, shortest_octets_only}
-use Rattle.asn1_number.specs.ReadingLaws.{signed_law, unsigned_law, unbounded_law}
+use Rattle.asn1_number.specs.StatedLaws.{EachNumberHasOneShortestList, ComputedAreShortest, ShortestByNineBits, ShortestKeepOrder, ShortestAreReadBack}
+use Rattle.asn1_number.specs.Laws.OctetLaws.{nine_bits_from_shortest, shortest_from_nine_bits}
+use Rattle.asn1_number.specs.Laws.OctetOrderLaws.{shortest_order}
+use Rattle.asn1_number.specs.Laws.ShortestLaws.{shortest_octets_are, shortest_octets_only}
+use Rattle.asn1_number.specs.Laws.ReadingLaws.{signed_law, unsigned_law, unbounded_law}
 
 pub one_shortest_list : EachNumberHasOneShortestList
 one_shortest_list n = (shortest_octets n, shortest_octets_are n, λ other s. shortest_octets_only n other s)

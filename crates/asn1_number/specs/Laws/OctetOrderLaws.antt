@@ -11,7 +11,7 @@ use Rattle.std.specs.Ordering.{MatchOrdering, nat_cmp, int_cmp, ordering_then}
 use borrow.Author.Differences.{up, down, same_in, below_in}
 use Rattle.asn1_number.specs.Octets.{IsOctets, unsigned, signed, IsShortest}
 use Rattle.asn1_number.specs.Order.{NineBitsDiffer, octets_cmp}
-use Rattle.asn1_number.specs.OctetLaws.{unsigned-cons, unsigned_below, low_parts, high_parts, signed_range, signed_outside, nine_bits_from_shortest}
+use Rattle.asn1_number.specs.Laws.OctetLaws.{unsigned-cons, unsigned_below, low_parts, high_parts, signed_range, signed_outside, nine_bits_from_shortest}
 
 map_match : (P Q R P' Q' R' : Type 0) (o : Ordering) → (P → P') → (Q → Q') → (R → R') → MatchOrdering o P Q R
     → MatchOrdering o P' Q' R'

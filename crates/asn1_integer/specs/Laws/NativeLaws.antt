@@ -4,7 +4,7 @@ use Rattle.std.proofs.Common.{sym, lit<}
 use Rattle.std.proofs.Math.Nat.{mul-div_cancel_left}
 use Rattle.asn1_number.specs.Octets.{IsShortest}
 use Rattle.asn1_number.specs.Readings.{SignedOf, UnsignedOf, Unbounded, IsInRange, width_of, signed_reading}
-use Rattle.asn1_number.specs.LawsHold.{shortest_are_read_back}
+use Rattle.asn1_number.specs.Laws.LawsHold.{shortest_are_read_back}
 use Rattle.asn1_integer.specs.NativeBits.{native_kind, IsNativeSize}
 
 pub native_reads_shortest : (is_signed : Bool) (size : ℕ) → IsNativeSize size →

@@ -3,8 +3,8 @@ use Rattle.std.proofs.Common.{◌≡◌, ℕ, List, [], ◌∷◌, ◌++◌, Boo
 use Rattle.std.specs.Prelude.{ℤ}
 use Rattle.asn1_bits.specs.Bits.{digits, bits}
 use Rattle.asn1_number.specs.Octets.{IsShortest}
-use Rattle.asn1_number.specs.LawsHold.{one_shortest_list}
-use Rattle.asn1_oid.specs.WritingLaws.{contents_only}
+use Rattle.asn1_number.specs.Laws.LawsHold.{one_shortest_list}
+use Rattle.asn1_oid.specs.Laws.WritingLaws.{contents_only}
 use Rattle.asn1_values.specs.Fields as plain
 use Rattle.asn1_values.specs.Fields.{IsSpelledBy, AreSpelledBy, HasOneSpelling, HaveOneSpelling, Number, Octets, Bits, Integer, Character, CountedInteger, Identifier}
 

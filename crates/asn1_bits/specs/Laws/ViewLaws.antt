@@ -3,7 +3,7 @@ use Rattle.std.proofs.Common.{◌≡◌, ℕ, ◌+◌, ◌*◌, ◌/◌, ◌%◌
 use Rattle.std.proofs.lemmas.List.{length-take, get_or-take, get_or-drop, drop-drop, drop-take, take-take}
 use Rattle.asn1_bits.specs.Bits.{bits, digits}
 use Rattle.asn1_bits.specs.View.{View, list_of, IsWithin, part}
-use Rattle.asn1_bits.specs.DigitLaws.{length-drop_bits, bits-drop, bits-take}
+use Rattle.asn1_bits.specs.Laws.DigitLaws.{length-drop_bits, bits-drop, bits-take}
 
 -- a view within its storage has as many bits as it says
 pub length-list_of : (v : View) → IsWithin v → length (list_of v) ≡ v.len

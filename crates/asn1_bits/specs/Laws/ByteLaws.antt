@@ -4,7 +4,7 @@ use Rattle.std.specs.Int.{byte_at, bytes_high_first}
 use Rattle.std.proofs.Math.Nat.{div-one, pow-suc}
 use Rattle.std.proofs.lemmas.Nat.{div-add-mod', pow-add}
 use Rattle.asn1_bits.specs.Bits.{digits, bits}
-use Rattle.asn1_bits.specs.NumberLaws.{digits-append, digits-low}
+use Rattle.asn1_bits.specs.Laws.NumberLaws.{digits-append, digits-low}
 
 -- digits see no more of a number than their count
 pub digits-mod : (n width : ℕ) → digits (n % 2 ^ width) width ≡ digits n width

@@ -8,7 +8,7 @@ use borrow.Author.Differences.{up, down, lt_out, le_out, neg_is, at_most_in, bel
 use Rattle.asn1_number.specs.Octets.{IsOctets, unsigned, signed, IsShortest}
 use Rattle.asn1_number.specs.Order.{NineBitsDiffer}
 use Rattle.asn1_number.specs.Readings.{SignedOf, UnsignedOf, Unbounded, IsInRange, signed_reading, counted_length}
-use Rattle.asn1_number.specs.OctetLaws.{signed_outside, one_part, low_parts, high_parts, signed_low, unsigned-cons, unsigned_below, unsigned-zero_first, nine_bits_from_shortest, shortest_from_nine_bits}
+use Rattle.asn1_number.specs.Laws.OctetLaws.{signed_outside, one_part, low_parts, high_parts, signed_low, unsigned-cons, unsigned_below, unsigned-zero_first, nine_bits_from_shortest, shortest_from_nine_bits}
 
 -- more than sixteen octets with none to spare lie outside `i128`
 pub past_sixteen : (o : List ℕ) → IsOctets o → NineBitsDiffer o → 16 < length o → IsInRange (SignedOf 16) (signed o) → ⊥

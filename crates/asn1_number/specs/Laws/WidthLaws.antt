@@ -9,7 +9,7 @@ use mir.Val.{SFits, of_z, to_z, sel}
 use lib.Dec.{ltb}
 use borrow.Author.Differences.{up, down, sum_is_lem, product_is, same_in}
 use Rattle.asn1_number.specs.Octets.{IsOctets, unsigned, signed}
-use Rattle.asn1_number.specs.OctetLaws.{unsigned-cons, unsigned_nil, unsigned_below, low_parts, high_parts, signed_low, signed_range, power_step, octets_from_places}
+use Rattle.asn1_number.specs.Laws.OctetLaws.{unsigned-cons, unsigned_nil, unsigned_below, low_parts, high_parts, signed_low, signed_range, power_step, octets_from_places}
 
 -- ---- one octet more at the end
 

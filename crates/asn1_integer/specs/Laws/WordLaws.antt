@@ -11,12 +11,12 @@ use Rattle.std.proofs.lemmas.List.{take_all}
 use Rattle.std.proofs.lemmas.List.Elements.{All-nil, All-cons, All-head, All-tail}
 use lib.Dec.{ltb}
 use Rattle.asn1_bits.specs.Bits.{digits, number, bits}
-use Rattle.asn1_bits.specs.DigitLaws.{length-bits}
-use Rattle.asn1_bits.specs.NumberLaws.{number-nil, number-append, number_of-digits, digits_of-number, digits-low, number-below}
+use Rattle.asn1_bits.specs.Laws.DigitLaws.{length-bits}
+use Rattle.asn1_bits.specs.Laws.NumberLaws.{number-nil, number-append, number_of-digits, digits_of-number, digits-low, number-below}
 use Rattle.asn1_number.specs.Octets.{IsOctets, IsShortest, unsigned, signed}
 use Rattle.asn1_number.specs.Readings.{FitsI128}
-use Rattle.asn1_number.specs.LawsHold.{shortest_by_nine_bits}
-use Rattle.asn1_number.specs.ReadingLaws.{past_sixteen}
+use Rattle.asn1_number.specs.Laws.LawsHold.{shortest_by_nine_bits}
+use Rattle.asn1_number.specs.Laws.ReadingLaws.{past_sixteen}
 
 -- the two ways to say that each is an octet
 pub IsOctets_from_All : (octets : List ℕ) → All (λ octet. octet < 256) octets → IsOctets octets

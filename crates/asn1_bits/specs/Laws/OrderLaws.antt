@@ -6,7 +6,7 @@ use Rattle.std.specs.Cmp.{nat_cmp_is}
 use Rattle.std.specs.Cmp.Derive.{then_next}
 use Rattle.asn1_bits.specs.Bits.{number}
 use Rattle.asn1_bits.specs.BitLists.{bits_cmp}
-use Rattle.asn1_bits.specs.NumberLaws.{number-cons, number-lt}
+use Rattle.asn1_bits.specs.Laws.NumberLaws.{number-cons, number-lt}
 
 -- two numbers are ordered as others are
 ordered : (o : Ordering) (m n p q : ℕ) → (m < n → p < q) → (m ≡ n → p ≡ q) → (n < m → q < p)

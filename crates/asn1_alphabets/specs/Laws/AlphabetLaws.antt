@@ -7,7 +7,7 @@ use Rattle.std.proofs.lemmas.Bool.Decides.{nat_tests}
 use Rattle.std.proofs.lemmas.Option.{slice_get_within, slice_get-get_or}
 use Rattle.std.proofs.lemmas.Map.Keys.{any_passes_from_place}
 use Rattle.asn1_characters.specs.Sets.{has_character}
-use Rattle.asn1_characters.specs.SetLaws.{not_above}
+use Rattle.asn1_characters.specs.Laws.SetLaws.{not_above}
 use Rattle.asn1_alphabets.specs.Alphabet.{Alphabet, IsCode, is_indexed}
 
 -- what stands at a place is in the set

@@ -9,7 +9,7 @@ use Rattle.std.proofs.lemmas.Nat.{shr-shr, shr_high, mod-pow-add}
 use Rattle.std.proofs.lemmas.Nat.Bits.{bit_at_cat_low}
 use Rattle.std.proofs.lemmas.Grind.{fold-append}
 use Rattle.asn1_bits.specs.Bits.{is_odd, digits, number, bits}
-use Rattle.asn1_bits.specs.DigitLaws.{length-digits, get_or-digits}
+use Rattle.asn1_bits.specs.Laws.DigitLaws.{length-digits, get_or-digits}
 
 -- one bit more after a list doubles its number
 pub number-push : (list : List Bool) (bit : Bool) → number (list ++ bit ∷ []) ≡ 2 * number list + cond bit 1 0

@@ -1,0 +1,3 @@
+-- Laws of the definitions, for the proofs of this crate and of those above it.
+pub mod AlphabetLaws
+pub mod AlphabetViewLaws

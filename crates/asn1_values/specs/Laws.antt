@@ -1,0 +1,2 @@
+-- Laws of the definitions, for the proofs of this crate and of those above it.
+pub mod SpellingLaws
