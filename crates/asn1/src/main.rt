@@ -18,6 +18,7 @@ mod opened;
 mod opened_tests;
 mod pem;
 mod places;
+mod progress;
 mod reasons;
 mod rules;
 mod run;
@@ -34,10 +35,13 @@ mod tree;
 mod tree_tests;
 mod types;
 
+use crate::progress::Progress;
 use crate::run::run;
+use std::io::IsTerminal;
 use std::process::ExitCode;
 
 /// Runs on the words of the command line.
 fn main(rt: HostRuntime) -> ExitCode {
-    ExitCode::from(run(&rt))
+    let progress = Progress::on(rt.stderr().is_terminal());
+    ExitCode::from(run(&rt, progress))
 }

@@ -9,6 +9,7 @@ use crate::forms::{FormError, FormProblem, form_of, values_of, written_as};
 use crate::from_json::encode_json;
 use crate::modules::Modules;
 use crate::places::line_and_column;
+use crate::progress::Progress;
 use crate::show::words_of_type;
 use crate::sizes::list_with_sizes;
 use crate::stop::Stop;
@@ -26,8 +27,8 @@ const STANDARD_INPUT: &str = "<stdin>";
 
 /// Runs on the words of the command line, and returns the status: 0, 1 if the input is wrong, 2 if the
 /// program is called wrongly or a module is wrong.
-pub fn run<R: Runtime + AllocGlobal>(rt: &R) -> u8 {
-    match answer(rt) {
+pub fn run<R: Runtime + AllocGlobal>(rt: &R, progress: Progress) -> u8 {
+    match answer(rt, progress) {
         Ok(status) => status,
         Err(stop) => {
             let status = stop.status();
@@ -38,12 +39,12 @@ pub fn run<R: Runtime + AllocGlobal>(rt: &R) -> u8 {
 }
 
 /// Reads the words, and does what they say. Help has the status 0.
-fn answer<R: Runtime + AllocGlobal>(rt: &R) -> Result<u8, Stop> {
+fn answer<R: Runtime + AllocGlobal>(rt: &R, progress: Progress) -> Result<u8, Stop> {
     let alloc = rt.alloc();
     let words = words_of(rt)?;
     match command(alloc)?.try_get_matches_from(words.as_slice()) {
         Ok(matches) => {
-            do_task(rt, &matches)?;
+            do_task(rt, &matches, progress)?;
             Ok(0)
         }
         Err(error) if error.kind() == ErrorKind::OutOfMemory => Err(Stop::Memory),
@@ -72,7 +73,11 @@ fn words_of<R: Runtime + AllocGlobal>(rt: &R) -> Result<Vec<String>, Stop> {
 }
 
 /// Does what matches say.
-fn do_task<R: Runtime + AllocGlobal>(rt: &R, matches: &ArgMatches<'_>) -> Result<(), Stop> {
+fn do_task<R: Runtime + AllocGlobal>(
+    rt: &R,
+    matches: &ArgMatches<'_>,
+    progress: Progress,
+) -> Result<(), Stop> {
     let Some((name, matches)) = matches.subcommand() else {
         return Ok(());
     };
@@ -81,14 +86,15 @@ fn do_task<R: Runtime + AllocGlobal>(rt: &R, matches: &ArgMatches<'_>) -> Result
     };
     let options = Options::of(matches);
     if task == Task::Dump {
-        return dump(rt, &options);
+        return dump(rt, &options, progress);
     }
     let names = matches.get_strs("modules").unwrap_or(&[]);
     let modules = read_modules(rt, names)?;
+    progress.say(rt, "reading modules of", modules.text().len());
     let schema = modules.schema()?;
     match task {
-        Task::Decode => decode(rt, &options, &modules, &schema),
-        Task::Encode => encode(rt, &options, &modules, &schema),
+        Task::Decode => decode(rt, &options, &modules, &schema, progress),
+        Task::Encode => encode(rt, &options, &modules, &schema, progress),
         Task::Types => {
             let list = if options.has_sizes {
                 list_with_sizes(rt.alloc(), &schema)?
@@ -222,6 +228,7 @@ fn decode<R: Runtime + AllocGlobal>(
     options: &Options<'_>,
     modules: &Modules<'_>,
     schema: &Schema,
+    progress: Progress,
 ) -> Result<(), Stop> {
     let alloc = rt.alloc();
     let target = target_of(alloc, options, schema)?;
@@ -236,6 +243,7 @@ fn decode<R: Runtime + AllocGlobal>(
         printed: options.printed,
     };
     for (index, value) in values.as_slice().iter().enumerate() {
+        progress.say(rt, "decoding", value.len());
         match decoder.text_of(value.as_slice()) {
             Ok(text) => write_whole(rt, text.as_slice())?,
             Err(Stop::Input(text)) if values.len() > 1 => {
@@ -267,11 +275,13 @@ fn encode<R: Runtime + AllocGlobal>(
     options: &Options<'_>,
     modules: &Modules<'_>,
     schema: &Schema,
+    progress: Progress,
 ) -> Result<(), Stop> {
     let alloc = rt.alloc();
     let target = target_of(alloc, options, schema)?;
     let codec = codec_of(alloc, options, modules, schema, target.node)?;
     let input = read_input(rt, options.input)?;
+    progress.say(rt, "encoding JSON of", input.len());
     let encoder = Encoder {
         alloc,
         schema,
@@ -286,9 +296,14 @@ fn encode<R: Runtime + AllocGlobal>(
 }
 
 /// Prints the elements of the input as trees.
-fn dump<R: Runtime + AllocGlobal>(rt: &R, options: &Options<'_>) -> Result<(), Stop> {
+fn dump<R: Runtime + AllocGlobal>(
+    rt: &R,
+    options: &Options<'_>,
+    progress: Progress,
+) -> Result<(), Stop> {
     let values = values_in(rt, options)?;
     for value in values.as_slice() {
+        progress.say(rt, "reading elements of", value.len());
         let tree = tree_of(rt.alloc(), value.as_slice(), options.depth, options.parts)?;
         write_whole(rt, tree.as_bytes())?;
     }

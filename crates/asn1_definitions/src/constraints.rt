@@ -1,9 +1,10 @@
 //! What the constraints of a type permit, as the packed encoding rules look at them (X.691 10.3).
 
-use crate::characters::{characters_between, characters_of};
+use crate::characters::{CharacterSet, NO_CHARACTERS};
 use crate::permitted::{ALL_NUMBERS, EVERYTHING, Hull, Permitted};
 use crate::scope::{MAX_STEPS, Place, Scope};
 use asn1_notation::{Item, NotationError, Problem, Word};
+use std::str;
 
 /// How many steps the constraints of one type may take.
 const MAX_WORK: usize = 1 << 20;
@@ -13,10 +14,10 @@ const MAX_WORK: usize = 1 << 20;
 enum Role {
     /// Values of an INTEGER, whose names of numbers they can use, or sizes.
     Numbers(Option<Place>),
-    /// Characters, of a type that has others than those of ASCII or not.
-    Characters { is_wide: bool },
-    /// Values of another type. No encoding depends on them.
-    Others { is_wide: bool },
+    /// Characters, up to the greatest of their type.
+    Characters { greatest: u32 },
+    /// Values of another type. No encoding depends on them. Its characters, if it has any, have a greatest.
+    Others { greatest: u32 },
 }
 
 /// Returns the role of the values of a type without a name.
@@ -24,9 +25,10 @@ fn role_of(scope: Scope<'_>, base: Place) -> Role {
     match scope.item(base) {
         Item::Integer => Role::Numbers(Some(base)),
         _ => Role::Others {
-            is_wide: match scope.entry(base.index).word {
-                Some(Word::BmpString | Word::UniversalString) => true,
-                _ => false,
+            greatest: match scope.entry(base.index).word {
+                Some(Word::BmpString) => 0xFFFF,
+                Some(Word::UniversalString) => u32::MAX,
+                _ => 127,
             },
         },
     }
@@ -44,11 +46,20 @@ struct Work {
 /// # Errors
 ///
 /// Returns the first error: that of a name or a number, [`Problem::Expected`] for a value of another
-/// kind, [`Problem::Unsupported`] for a FROM with characters outside of ASCII, [`Problem::Empty`] for
-/// a constraint that permits nothing, or [`Problem::Circular`] if the definitions do not end.
+/// kind, [`Problem::Empty`] for a constraint that permits nothing, [`Problem::Circular`] if the
+/// definitions do not end, or [`Problem::Unsupported`] for a FROM with more than 16 ranges of characters
+/// outside of ASCII.
 pub fn permitted_by(scope: Scope<'_>, place: Place) -> Result<Permitted, NotationError> {
     let mut work = Work { left: MAX_WORK };
-    scope.permitted(place, &mut work, MAX_STEPS)
+    let permitted = scope.permitted(place, &mut work, MAX_STEPS)?;
+    match permitted.alphabet {
+        Some(characters) if characters.is_too_large() => {
+            let feature =
+                "FROM with more than 16 ranges of characters outside of ASCII (X.680 51.7)";
+            Err(scope.error(Problem::Unsupported(feature), place))
+        }
+        _ => Ok(permitted),
+    }
 }
 
 impl<'r> Scope<'r> {
@@ -110,7 +121,7 @@ impl<'r> Scope<'r> {
     }
 
     /// Returns the characters of a string or of a range of characters.
-    fn characters(self, place: Place, is_wide: bool) -> Result<u128, NotationError> {
+    fn characters(self, place: Place, greatest: u32) -> Result<CharacterSet, NotationError> {
         let (first, last) = self.ends(place);
         let Some(last) = last else {
             return self.characters_in(first);
@@ -120,20 +131,19 @@ impl<'r> Scope<'r> {
             _ => self.character(first)?,
         };
         let greatest = match self.entry(last.index).word {
-            Some(Word::Max) if is_wide => return Err(self.not_ascii(last)),
-            Some(Word::Max) => 127,
+            Some(Word::Max) => greatest,
             _ => self.character(last)?,
         };
-        Ok(characters_between(least, greatest))
+        Ok(CharacterSet::between(least, greatest))
     }
 
     /// Returns the characters of a value: a string, a character by its number, or a list of these.
-    fn characters_in(self, place: Place) -> Result<u128, NotationError> {
+    fn characters_in(self, place: Place) -> Result<CharacterSet, NotationError> {
         let value = self.text_value(place)?;
         if self.item(value) == Item::Text || self.character_of(value).is_some() {
             return self.characters_of_one(value);
         }
-        let mut found = 0u128;
+        let mut found = NO_CHARACTERS;
         let mut inside = self.inside(value);
         for _ in 0..self.most() {
             let Some(index) = inside.next(self.tape) else {
@@ -141,50 +151,47 @@ impl<'r> Scope<'r> {
             };
             let piece = Place { index, ..value };
             if self.item(piece) != Item::Comma {
-                found |= self.characters_of_one(self.text_value(piece)?)?;
+                found = found.or(self.characters_of_one(self.text_value(piece)?)?);
             }
         }
         Ok(found)
     }
 
+    /// Returns the text of a string.
+    fn str_of(self, value: Place) -> Result<&'r str, NotationError> {
+        match str::from_utf8(self.text_of(self.entry(value.index))) {
+            Ok(text) => Ok(text),
+            Err(_) => Err(self.error(Problem::Expected("a string in UTF-8"), value)),
+        }
+    }
+
     /// Returns the characters of a string, or the one that a tuple or a quadruple is.
-    fn characters_of_one(self, value: Place) -> Result<u128, NotationError> {
+    fn characters_of_one(self, value: Place) -> Result<CharacterSet, NotationError> {
         if self.item(value) == Item::Text {
-            let text = self.text_of(self.entry(value.index));
-            return characters_of(text).ok_or(self.not_ascii(value));
+            return Ok(CharacterSet::of(self.str_of(value)?));
         }
         let number = self.number_of_character(value)?;
-        Ok(characters_between(number, number))
+        Ok(CharacterSet::between(number, number))
     }
 
     /// Returns the number of the character that a tuple or a quadruple is.
-    fn number_of_character(self, value: Place) -> Result<u8, NotationError> {
-        let Some(number) = self.character_of(value) else {
-            let expected = "a character by two or four numbers (X.680 41.8)";
-            return Err(self.error(Problem::Expected(expected), value));
-        };
-        match u8::try_from(number) {
-            Ok(number @ 0..=127) => Ok(number),
-            _ => Err(self.not_ascii(value)),
-        }
+    fn number_of_character(self, value: Place) -> Result<u32, NotationError> {
+        let expected = "a character by two or four numbers (X.680 41.8)";
+        self.character_of(value)
+            .ok_or(self.error(Problem::Expected(expected), value))
     }
 
     /// Returns the number of the character that a value of one character has.
-    fn character(self, place: Place) -> Result<u8, NotationError> {
+    fn character(self, place: Place) -> Result<u32, NotationError> {
         let value = self.text_value(place)?;
         if self.item(value) != Item::Text {
             return self.number_of_character(value);
         }
-        match self.text_of(self.entry(value.index)) {
-            [octet @ 0..=127] => Ok(*octet),
-            [0..=127, ..] | [] => Err(self.error(Problem::Expected("one character"), value)),
-            _ => Err(self.not_ascii(value)),
+        let mut characters = self.str_of(value)?.chars();
+        match (characters.next(), characters.next()) {
+            (Some(one), None) => Ok(u32::from(one)),
+            _ => Err(self.error(Problem::Expected("one character"), value)),
         }
-    }
-
-    fn not_ascii(self, place: Place) -> NotationError {
-        let feature = "FROM with characters outside of ASCII (X.680 51.7)";
-        self.error(Problem::Unsupported(feature), place)
     }
 
     /// Returns what a value or a range permits.
@@ -194,8 +201,8 @@ impl<'r> Scope<'r> {
                 values: Some(self.numbers(place, governor)?),
                 ..EVERYTHING
             },
-            Role::Characters { is_wide } => Permitted {
-                alphabet: Some(self.characters(place, is_wide)?),
+            Role::Characters { greatest } => Permitted {
+                alphabet: Some(self.characters(place, greatest)?),
                 ..EVERYTHING
             },
             Role::Others { .. } => EVERYTHING,
@@ -229,11 +236,11 @@ impl<'r> Scope<'r> {
                 })
             }
             Item::From => {
-                let is_wide = match role {
-                    Role::Others { is_wide } | Role::Characters { is_wide } => is_wide,
-                    Role::Numbers(_) => false,
+                let greatest = match role {
+                    Role::Others { greatest } | Role::Characters { greatest } => greatest,
+                    Role::Numbers(_) => 127,
                 };
-                self.of_element(first, Role::Characters { is_wide }, work, steps - 1)
+                self.of_element(first, Role::Characters { greatest }, work, steps - 1)
             }
             Item::Contained => {
                 let inner = self.permitted(first, work, steps - 1)?;

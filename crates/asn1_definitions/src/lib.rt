@@ -16,6 +16,7 @@ mod permitted;
 mod scope;
 mod tags;
 
+pub use characters::{CharacterRange, CharacterSet, MAX_RANGES, NO_CHARACTERS};
 pub use constraints::permitted_by;
 pub use fields::Field;
 pub use hash::{LISTS, hash_of};

@@ -1,5 +1,7 @@
 //! What constraints permit: bounds of values, bounds of sizes, and alphabets.
 
+use crate::characters::CharacterSet;
+
 /// The least and the greatest of some numbers. `None` is the absence of a bound.
 #[derive(Clone, Copy, PartialEq, Eq)]
 pub struct Hull {
@@ -26,8 +28,8 @@ pub struct Permitted {
     pub values: Option<Hull>,
     /// The sizes of a string or a list.
     pub sizes: Option<Hull>,
-    /// The characters of a string: bit N is the character with the number N.
-    pub alphabet: Option<u128>,
+    /// The characters of a string.
+    pub alphabet: Option<CharacterSet>,
 }
 
 /// What a type without constraints permits.
@@ -131,7 +133,7 @@ impl Permitted {
             values: both(self.values, other.values),
             sizes: both(self.sizes, other.sizes),
             alphabet: match (self.alphabet, other.alphabet) {
-                (Some(a), Some(b)) => Some(a & b),
+                (Some(a), Some(b)) => Some(a.and(b)),
                 (None, b) => b,
                 (a, None) => a,
             },
@@ -144,7 +146,7 @@ impl Permitted {
             values: either(self.values, other.values),
             sizes: either(self.sizes, other.sizes),
             alphabet: match (self.alphabet, other.alphabet) {
-                (Some(a), Some(b)) => Some(a | b),
+                (Some(a), Some(b)) => Some(a.or(b)),
                 _ => None,
             },
         }
@@ -188,6 +190,10 @@ impl Permitted {
             Some(sizes) => sizes.is_empty(),
             None => false,
         };
-        has_no_value || has_no_size || self.alphabet == Some(0)
+        let has_no_character = match self.alphabet {
+            Some(characters) => characters.is_empty(),
+            None => false,
+        };
+        has_no_value || has_no_size || has_no_character
     }
 }

@@ -1,5 +1,6 @@
-//! The alphabets of strings, as ranges and as sets of the characters of ASCII.
+//! The alphabets of strings, as ranges and as sets of characters.
 
+use asn1_definitions::{CharacterSet, MAX_RANGES, NO_CHARACTERS};
 use asn1_notation::{Sink, Word, narrow};
 use asn1_schema::{Range, Rows};
 use asn1_x690::CharacterSize;
@@ -85,36 +86,22 @@ pub fn character_size(word: Option<Word>) -> CharacterSize {
     }
 }
 
-/// Returns the characters of ASCII that some ranges have, as bits.
-fn ascii_of(ranges: &[Range]) -> u128 {
-    let mut found = 0u128;
-    for range in ranges {
-        for number in 0..128u8 {
-            if range.first <= u32::from(number) && u32::from(number) <= range.last {
-                found |= 1u128 << number;
-            }
-        }
-    }
-    found
-}
-
 /// Returns the characters that a set and a whole alphabet share.
-pub fn within(characters: u128, whole: Rows) -> u128 {
-    let mut shared = 0u128;
+pub fn within(characters: CharacterSet, whole: Rows) -> CharacterSet {
+    let mut all = NO_CHARACTERS;
     for (index, range) in WHOLE_ALPHABETS.iter().enumerate() {
         if whole.from <= index && index - whole.from < whole.count as usize {
-            shared |= characters & ascii_of(&[*range]);
+            all = all.or(CharacterSet::between(range.first, range.last));
         }
     }
-    shared
+    characters.and(all)
 }
 
-/// Appends characters as ranges, and returns their rows.
-pub fn push_ranges(ranges: &mut Sink<'_, Range>, characters: u128) -> Rows {
-    let from = ranges.count();
+/// Appends the characters of ASCII as ranges. Returns the beginning of a last range that ends with ASCII.
+fn push_ascii(ranges: &mut Sink<'_, Range>, ascii: u128) -> Option<u32> {
     let mut first = None;
     for number in 0..128u8 {
-        let is_in = (characters >> number) & 1 == 1;
+        let is_in = (ascii >> number) & 1 == 1;
         let here = u32::from(number);
         match first {
             None if is_in => first = Some(here),
@@ -128,11 +115,33 @@ pub fn push_ranges(ranges: &mut Sink<'_, Range>, characters: u128) -> Rows {
             _ => {}
         }
     }
-    if let Some(start) = first {
+    first
+}
+
+/// Appends characters as ranges, and returns their rows.
+pub fn push_ranges(ranges: &mut Sink<'_, Range>, characters: CharacterSet) -> Rows {
+    let from = ranges.count();
+    let mut begun = push_ascii(ranges, characters.ascii());
+    for index in 0..MAX_RANGES {
+        let Some(range) = characters.range_above(index) else {
+            break;
+        };
+        let first = match begun {
+            Some(first) if range.first == 128 => first,
+            Some(first) => {
+                ranges.push(Range { first, last: 127 });
+                range.first
+            }
+            None => range.first,
+        };
         ranges.push(Range {
-            first: start,
-            last: 127,
+            first,
+            last: range.last,
         });
+        begun = None;
+    }
+    if let Some(first) = begun {
+        ranges.push(Range { first, last: 127 });
     }
     Rows {
         from,

@@ -204,7 +204,7 @@ impl<'m> Builder<'m> {
             None => whole,
             Some(characters) => {
                 let characters = within(characters, whole);
-                if characters == 0 {
+                if characters.is_empty() {
                     return Err(scope.error(Problem::Empty, place));
                 }
                 push_ranges(&mut self.ranges, characters)
