@@ -9,6 +9,7 @@ _asn1() {
         [types]="--sizes --help"
         [show]="--type --depth --help"
         [dump]="--from --input --depth --parts --help"
+        [tables]="--rules --type --check --depth --help"
     )
     if [ "$COMP_CWORD" = 1 ]; then
         mapfile -t COMPREPLY < <(compgen -W "${!options[*]} --help" -- "$word")
@@ -20,7 +21,7 @@ _asn1() {
         --to) [ "$task" = decode ] && words="json text tree" || words="binary hex base64 pem" ;;
         --type) words=$(_asn1_types) ;;
         --depth | --parts) return ;;
-        --input)
+        --input | --check)
             mapfile -t COMPREPLY < <(compgen -f -- "$word")
             return
             ;;

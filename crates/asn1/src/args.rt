@@ -38,6 +38,8 @@ pub enum Task {
     Show,
     /// To print elements as a tree.
     Dump,
+    /// To print the tables of modules.
+    Tables,
 }
 
 impl Task {
@@ -50,6 +52,7 @@ impl Task {
             "types" => Some(Task::Types),
             "show" => Some(Task::Show),
             "dump" => Some(Task::Dump),
+            "tables" => Some(Task::Tables),
             _ => None,
         }
     }
@@ -100,6 +103,8 @@ pub struct Options<'m> {
     pub input: Option<&'m str>,
     /// Whether the bits of types are printed beside their names.
     pub has_sizes: bool,
+    /// The name of the file that must have the tables. `None` if they are printed.
+    pub checked: Option<&'m str>,
 }
 
 /// Returns the value of an option. It is empty if the option is not given.
@@ -127,6 +132,7 @@ impl<'m> Options<'m> {
             parts: matches.get_one("parts").unwrap_or(PARTS),
             input: matches.get_str("input"),
             has_sizes: matches.get_flag("sizes"),
+            checked: matches.get_str("check"),
         }
     }
 }
@@ -276,6 +282,19 @@ fn dump<'a>(alloc: Global) -> Result<Command<'a>, AllocError> {
         .arg(parts(alloc, most))
 }
 
+/// Returns the subcommand `tables`.
+fn tables<'a>(alloc: Global) -> Result<Command<'a>, AllocError> {
+    let check = "Print nothing; the status is 1 if the file has other tables";
+    Command::new(alloc, "tables")
+        .about("Print the tables of modules as a source of constants")
+        .after_help("Example: asn1 tables --rules uper --type Person people.asn1 > people.rt")
+        .arg(rules(alloc))?
+        .arg(type_name(alloc))?
+        .arg(option(alloc, "check", "FILE", check))?
+        .arg(depth(alloc))?
+        .arg(modules(alloc))
+}
+
 /// Returns the program's command line.
 ///
 /// # Errors
@@ -291,5 +310,6 @@ pub fn command<'a>(alloc: Global) -> Result<Command<'a>, AllocError> {
         .subcommand(check(alloc)?)?
         .subcommand(types(alloc)?)?
         .subcommand(show(alloc)?)?
-        .subcommand(dump(alloc)?)
+        .subcommand(dump(alloc)?)?
+        .subcommand(tables(alloc)?)
 }

@@ -6,7 +6,7 @@ use crate::rules::Rules;
 use asn1_defaults::{DefaultEncodings, DefaultError};
 use asn1_resolve::Schema;
 use asn1_schema::Part;
-use asn1_x690_decode::{Explanation, explain};
+use asn1_x690_decode::{Defaults, Explanation, explain};
 use asn1_x691_encode::Misfit;
 use std::alloc::Global;
 use thiserror::Error;
@@ -82,6 +82,11 @@ impl Codec {
         };
         let defaults = DefaultEncodings::new(alloc, schema, node, of)?;
         Ok(Codec { rules, defaults })
+    }
+
+    /// Returns the encodings of default values.
+    pub fn defaults(&self) -> Defaults<'_> {
+        self.defaults.defaults()
     }
 
     /// Returns whether the rules are DER.

@@ -28,6 +28,7 @@ mod show;
 mod size_tests;
 mod sizes;
 mod stop;
+mod tables;
 #[cfg(test)]
 mod tests;
 mod tree;

@@ -13,6 +13,7 @@ use crate::progress::Progress;
 use crate::show::words_of_type;
 use crate::sizes::list_with_sizes;
 use crate::stop::Stop;
+use crate::tables::{is_same_source, source_of};
 use crate::types::{list_of, node_of};
 use asn1_resolve::Schema;
 use clap::ArgMatches;
@@ -109,6 +110,7 @@ fn do_task<R: Runtime + AllocGlobal>(
             let shown = words_of_type(rt.alloc(), &schema, name, node, depth)?;
             write_whole(rt, shown.as_bytes())
         }
+        Task::Tables => tables(rt, &options, &modules, &schema),
         Task::Check | Task::Dump => Ok(()),
     }
 }
@@ -308,4 +310,25 @@ fn dump<R: Runtime + AllocGlobal>(
         write_whole(rt, tree.as_bytes())?;
     }
     Ok(())
+}
+
+/// Prints the tables of the types, or compares them with those of a file.
+fn tables<R: Runtime + AllocGlobal>(
+    rt: &R,
+    options: &Options<'_>,
+    modules: &Modules<'_>,
+    schema: &Schema,
+) -> Result<(), Stop> {
+    let alloc = rt.alloc();
+    let target = target_of(alloc, options, schema)?;
+    let codec = codec_of(alloc, options, modules, schema, target.node)?;
+    let source = source_of(alloc, schema, codec.defaults())?;
+    let Some(name) = options.checked else {
+        return write_whole(rt, source.as_bytes());
+    };
+    match fs::read_to_string(rt, name) {
+        Ok(found) if is_same_source(found.as_str(), source.as_str()) => Ok(()),
+        Ok(_) => Err(Stop::input(format!(in alloc; "{name}: not the tables of the modules"))),
+        Err(error) => Err(of_file(alloc, name, error)),
+    }
 }

@@ -14,10 +14,14 @@ mod notation;
 #[cfg(test)]
 mod parts;
 #[cfg(test)]
+mod people;
+#[cfg(test)]
 mod reals;
 #[cfg(test)]
 mod record;
 #[cfg(test)]
 mod resolve;
+#[cfg(test)]
+mod tables;
 #[cfg(test)]
 mod values;
