@@ -35,6 +35,7 @@ mod tree;
 #[cfg(test)]
 mod tree_tests;
 mod types;
+mod views;
 
 use crate::progress::Progress;
 use crate::run::run;

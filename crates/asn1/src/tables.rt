@@ -1,6 +1,7 @@
 //! The tables of modules as a source of constants.
 
 use crate::types::are_of_one_module;
+use crate::views::views_of;
 use asn1_resolve::{NamedType, Schema};
 use asn1_schema_values::NameSpan;
 use asn1_x690_decode::Defaults;
@@ -204,6 +205,7 @@ pub fn source_of(
         defaults.spans,
     )?;
     push_names(&mut text, alloc, schema)?;
+    text.push_str(views_of(alloc, schema)?.as_str())?;
     Ok(text)
 }
 

@@ -249,3 +249,31 @@ pub const MEMBER_NAMES: [NameSpan; 3] = [
     NameSpan { from: 10, count: 3 },
     NameSpan { from: 13, count: 5 },
 ];
+
+pub mod views {
+    //! Values by the names of their components.
+
+    /// A value of `Person`.
+    #[derive(Clone, Copy, Debug)]
+    pub struct Person<'v>(pub asn1_schema_values::Value<'v>);
+
+    impl<'v> Person<'v> {
+        /// Returns the component `name`. `None` if it is absent.
+        pub fn name(&self) -> Option<asn1_schema_values::Value<'v>> {
+            let value = self.0.get("name")?;
+            Some(value)
+        }
+
+        /// Returns the component `age`. `None` if it is absent.
+        pub fn age(&self) -> Option<asn1_schema_values::Value<'v>> {
+            let value = self.0.get("age")?;
+            Some(value)
+        }
+
+        /// Returns the component `likes`. `None` if it is absent.
+        pub fn likes(&self) -> Option<asn1_schema_values::Value<'v>> {
+            let value = self.0.get("likes")?;
+            Some(value)
+        }
+    }
+}

@@ -1,5 +1,6 @@
 //! A message decoded by constant tables, which `asn1 tables` printed.
 
+use crate::people::views::Person;
 use crate::people::{MEMBER_NAMES, MEMBERS, NAME_TEXT, NODE_NAMES, NODES, PERSON, RANGES};
 use asn1_schema::{Part, Tables};
 use asn1_schema_values::{Message, Names, Value};
@@ -36,10 +37,8 @@ fn decodes_by_constant_tables(rt: HostRuntime) -> Result<(), Fail> {
         octets: &octets,
         parts: parts.get(..count).unwrap_or(&[]),
     };
-    let person = Value::whole(&message, PERSON);
-    let age = person.get("age").and_then(|it| it.as_i128());
-    assert!(rt; age == Some(30));
-    let likes = person.get("likes").and_then(|it| it.item_count());
-    assert!(rt; likes == Some(1));
+    let person = Person(Value::whole(&message, PERSON));
+    assert!(rt; person.age().and_then(|it| it.as_i128()) == Some(30));
+    assert!(rt; person.likes().and_then(|it| it.item_count()) == Some(1));
     Ok(())
 }
