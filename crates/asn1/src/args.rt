@@ -175,7 +175,7 @@ fn printed<'a>(alloc: Global) -> Arg<'a> {
 
 /// Returns the option that names a file to read.
 fn input<'a>(alloc: Global) -> Arg<'a> {
-    let help = "The file to read in place of standard input";
+    let help = "The file to read instead of standard input";
     option(alloc, "input", "FILE", help)
 }
 
