@@ -5,7 +5,7 @@ ghost use Rattle.std.specs.Io.KnownBytes.{Appends, Consumes, IsAtEnd};
 ghost use Rattle.field_lines.specs.Answer as lines;
 ghost use Rattle.field_lines.specs.Answer.{IsAnswer, IsOnly};
 
-use field_lines::answer;
+use field_lines::answer_to;
 use octet_streams::{StreamError, read_to_end, write_all};
 use std::alloc::Global;
 use std::io::{Read, Write};
@@ -41,7 +41,7 @@ pub fn run<R: Read, W: Write>(
         × Appends (W.contents output.old) (W.contents output.new) front) }
 {
     let text = read_to_end(alloc, input)?;
-    let answer = answer(alloc, text.as_slice())?;
+    let answer = answer_to(alloc, text.as_slice())?;
     write_all(output, answer.text.as_bytes())?;
     Ok(answer.status)
 }

@@ -29,7 +29,7 @@ pub struct Answer {
 /// # Errors
 ///
 /// Returns `AllocError` if out of memory. Invalid input is no error: its answer has status 1.
-pub fn answer(alloc: Global, text: &[u8]) -> Result<Answer, AllocError>
+pub fn answer_to(alloc: Global, text: &[u8]) -> Result<Answer, AllocError>
     // It is an answer to the text, which has no other.
     ensures answer { IfOk result (λ answer. IsOnly (IsAnswer text.now) (answer_in answer)) }
     ensures status { IfOk result (λ answer. answer.status ≤ 1) }

@@ -4,7 +4,7 @@ use Rattle.asn1_values.specs.Words.{bits_of}
 use Rattle.field_lines.specs.Answer.{IsAnswer, IsBitsAnswer, IsOnly}
 use Rattle.field_lines.proofs.AnswerLemmas.{refused_by, goes_on, bad_input, bad_shapes, bad_octets, bad_start, on_bits}
 use Rattle.field_lines.proofs.OneLemmas.{words_in_one_code}
-use Rattle.field_lines.proofs.answer.answer.Goals as goal
+use Rattle.field_lines.proofs.answer.answer_to.Goals as goal
 
 pub returns-in_default-clause-answer : goal.returns-in_default-clause-answer
 returns-in_default-clause-answer c =
