@@ -231,14 +231,18 @@ pub fn is_same_source(one: &str, other: &str) -> bool {
 /// Returns the octets from the first one on that is not layout.
 fn without_layout(octets: &[u8]) -> &[u8] {
     let mut rest = octets;
-    while let [first, after @ ..] = rest {
-        let is_layout = first.is_ascii_whitespace() || *first == b',' && is_closed(after);
-        if !is_layout {
-            break;
+    for _ in 0..octets.len() {
+        match rest {
+            [first, after @ ..] if is_layout(*first, after) => rest = after,
+            _ => break,
         }
-        rest = after;
     }
     rest
+}
+
+/// Returns whether an octet is layout before others.
+fn is_layout(first: u8, after: &[u8]) -> bool {
+    first.is_ascii_whitespace() || first == b',' && is_closed(after)
 }
 
 /// Returns whether the next octet that is no white space closes a bracket.
