@@ -83,7 +83,7 @@ def files():
     for name, crate in sorted(repository.crates().items()):
         found = of_crate(crate)
         if found:
-            names.append(name.removeprefix("asn1_"))
+            names.append(f"{name.removeprefix('asn1_')}_examples")
             made[f"crates/{CRATE}/src/{names[-1]}.rt"] = module(name, found)
     head = "//! The examples in the doc comments of the crates, printed by `scripts/print-examples`.\n#![tactic(auto)]\n\n"
     made[f"crates/{CRATE}/src/lib.rt"] = head + "\n".join(f"#[cfg(test)]\nmod {it};" for it in names) + "\n"

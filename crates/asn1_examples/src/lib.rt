@@ -2,36 +2,36 @@
 #![tactic(auto)]
 
 #[cfg(test)]
-mod alphabets;
+mod alphabets_examples;
 #[cfg(test)]
-mod bits;
+mod bits_examples;
 #[cfg(test)]
-mod builder;
+mod builder_examples;
 #[cfg(test)]
-mod defaults;
+mod defaults_examples;
 #[cfg(test)]
-mod integer;
+mod integer_examples;
 #[cfg(test)]
-mod json;
+mod json_examples;
 #[cfg(test)]
-mod number;
+mod number_examples;
 #[cfg(test)]
-mod oid;
+mod oid_examples;
 #[cfg(test)]
-mod resolve;
+mod resolve_examples;
 #[cfg(test)]
-mod schema_values;
+mod schema_values_examples;
 #[cfg(test)]
-mod strings;
+mod strings_examples;
 #[cfg(test)]
-mod values;
+mod values_examples;
 #[cfg(test)]
-mod x690_decode;
+mod x690_decode_examples;
 #[cfg(test)]
-mod x690_elements;
+mod x690_elements_examples;
 #[cfg(test)]
-mod x690_encode;
+mod x690_encode_examples;
 #[cfg(test)]
-mod x691_decode;
+mod x691_decode_examples;
 #[cfg(test)]
-mod x691_encode;
+mod x691_encode_examples;
