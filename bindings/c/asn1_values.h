@@ -1,7 +1,7 @@
 /* The proved value layer of ASN.1 for C, from the static library libasn1_c.a, for 64-bit x86 under Linux. Each name
  * begins with asn1v_ or ASN1V_, so this header can be included beside those of OpenSSL and libtasn1. The library is
- * built for processors of x86-64-v2 (from about 2009 on), or with `scripts/install-c --plain` for every x86-64; where
- * the processor is too old for the library, an instruction is illegal, and nothing tests for it.
+ * built for processors of x86-64-v2 (from about 2009 on), or with `scripts/install-c --plain` for every x86-64. On an
+ * older processor a call ends the program by an illegal instruction: asn1v_processor_suffices tests for that before.
  *
  * Each function has a contract that is proved for every input; below it is in words. What a caller must keep, and
  * nothing checks:
@@ -29,9 +29,9 @@
 
 /* The version of this header. */
 #define ASN1V_VERSION_MAJOR 0
-#define ASN1V_VERSION_MINOR 1
+#define ASN1V_VERSION_MINOR 3
 #define ASN1V_VERSION_PATCH 0
-#define ASN1V_VERSION "0.1.0"
+#define ASN1V_VERSION "0.3.0"
 #define ASN1V_VERSION_NUMBER (10000 * ASN1V_VERSION_MAJOR + 100 * ASN1V_VERSION_MINOR + ASN1V_VERSION_PATCH)
 
 /* A code that a program does not look at is a warning. */
@@ -49,6 +49,18 @@ extern "C" {
 
 /* The version of the library, as ASN1V_VERSION_NUMBER is that of the header. */
 uint32_t asn1v_version(void);
+
+/* Whether the processor has the instructions of x86-64-v2. It calls nothing of the library. */
+static inline bool asn1v_processor_suffices(void)
+{
+#if defined(__GNUC__) && defined(__x86_64__)
+    __builtin_cpu_init();
+    return __builtin_cpu_supports("sse3") && __builtin_cpu_supports("ssse3") && __builtin_cpu_supports("sse4.1")
+        && __builtin_cpu_supports("sse4.2") && __builtin_cpu_supports("popcnt");
+#else
+    return false;
+#endif
+}
 
 /* A number of 128 bits: high times 2 to the power of 64, and low. */
 typedef struct asn1v_words {

@@ -18,6 +18,7 @@ void expect(const char *what, bool right)
 
 static void codes(void)
 {
+    expect("the processor suffices", asn1v_processor_suffices());
     expect("header and library have one version", asn1v_version() == ASN1V_VERSION_NUMBER);
     expect("a code has a text", strcmp(asn1v_code_text(ASN1V_ROOM), "the caller's room is too small") == 0);
     expect("and so has a number that is none", strcmp(asn1v_code_text(1000), "an unknown code") == 0);

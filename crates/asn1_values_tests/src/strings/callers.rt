@@ -18,8 +18,8 @@ pub fn answer(alloc: Global, name: &str, words: &[&str]) -> Result<String, RowEr
     }
 }
 
-/// The character that is read where a character was written, if it has a code: the same, whichever
-/// of its codes was taken.
+/// Encodes a character, and decodes its code. Returns the same character, whichever of its codes was
+/// taken, or `None` if it has none.
 fn read_again(alphabet: &CharacterAlphabet<'_>, character: u32) -> Option<u32>
     ensures { IfSome result (λ c. c ≡ character) }
 {
