@@ -10,10 +10,9 @@ ghost use Rattle.asn1_x690.specs.Der.{always};
 ghost use Rattle.asn1_x691_fields.specs.Octets.{are_series as are_in_series};
 ghost use Rattle.asn1_x690_leaves.specs.Told.{AreOctetsOf, IsTold};
 
-use crate::octets::whole_octets;
 use asn1_schema::{Part, Span};
 use asn1_x690::FaultKind;
-use asn1_x691_fields::are_subidentifiers as are_at_any_bit;
+use asn1_x691_fields::{are_subidentifiers as are_at_any_bit, whole_octets};
 
 /// Returns whether octets are subidentifiers one after another (8.19.2).
 #[inline(always)]

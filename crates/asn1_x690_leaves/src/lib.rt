@@ -10,7 +10,6 @@ mod booleans;
 mod enumerations;
 mod identifiers;
 mod integers;
-mod octets;
 mod reals;
 mod sizes;
 mod strings;

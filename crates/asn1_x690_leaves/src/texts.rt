@@ -9,12 +9,11 @@ ghost use Rattle.asn1_schema.specs.PiecesOfParts.{bits_of};
 ghost use Rattle.asn1_x690.specs.Leaves.{width_of as width_in, AreCharacters, AreIn, IsText};
 ghost use Rattle.asn1_x690_leaves.specs.Told.{AreOctetsOf, IsTold};
 
-use crate::octets::whole_octets;
 use crate::sizes::has_size;
 use asn1_bits::read_bits;
 use asn1_schema::{Characters, Codes, Length, Part, Range, Span};
 use asn1_x690::{CharacterSize, FaultKind};
-use asn1_x691_fields::is_in;
+use asn1_x691_fields::{is_in, whole_octets};
 
 /// Returns how many bits a character has.
 #[inline(always)]

@@ -1,5 +1,6 @@
--- What a decoder or an encoder leaves out of X.691. Where a value exceeds a limit, the fault is `Unsupported`, and the limits are part
--- of the definition, so that it is known exactly where that fault is. More than these it does not leave out.
+-- What a decoder or an encoder leaves out of the definition. Where a value exceeds a limit, the fault is `Unsupported`, and the limits
+-- are part of the definition, so that it is known exactly where that fault is. The definition itself has fragments (X.691 11.9.3.8) of
+-- strings and open types alone: a list of 16,384 items or more, and an INTEGER of as many octets, have no encoding in it.
 use Rattle.std.specs.Prelude.{ℕ, Bool, true, false, ◌%◌, ◌≡◌, ◌≢◌, ◌<◌, ◌≤◌, ◌⊎◌, List, length}
 use Rattle.asn1_x691.specs.declared.fault.FaultKind.{FaultKind}
 use Rattle.asn1_x691.specs.declared.fault.FaultKind.TheVariants.{Unsupported}
@@ -13,7 +14,7 @@ pub record Limits : Type 0 where
   -- in the ALIGNED variant, whether the items of a SET OF must begin at octets
   pub sets_on_octets : Bool
 
--- X.691
+-- without limits
 abbrev pub no_limits : Limits
 no_limits = record { octet_fragments = most_fragments; fragments = most_fragments; sets_on_octets = false }
 

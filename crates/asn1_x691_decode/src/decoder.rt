@@ -1,6 +1,6 @@
 //! Decodes a value of any type.
 
-ghost use Rattle.std.specs.Prelude.{◌≡◌, ◌≤◌, ◌<◌, ◌^◌, ◌*◌, ◌+◌, ◌-◌, true, false, length, slice_get, Some};
+ghost use Rattle.std.specs.Prelude.{◌≡◌, ◌≤◌, ◌<◌, ◌^◌, ◌*◌, ◌+◌, ◌-◌, true, false, length, slice_get, Some, None, MatchOption};
 ghost use Rattle.asn1_bits.specs.Bits.{bits};
 ghost use Rattle.asn1_x691.specs.Fragments.{octets};
 ghost use Rattle.asn1_x691_fields.specs.Outcomes.{IsWithin, IsMoved, IsPlaced};
@@ -23,11 +23,11 @@ use asn1_x691_fields::{State, fail};
 
 /// Returns the type at a node.
 #[inline(always)]
-fn node_at(nodes: &[Node], node: usize) -> Option<Node>
-    ensures { result ≡ slice_get nodes.now node }
+fn node_at(nodes: &[Node], node: usize) -> Option<&Node>
+    ensures { MatchOption result (None ≡ slice_get nodes.now node) (λ row. Some row.now ≡ slice_get nodes.now node) }
 {
     if node < nodes.len() {
-        Some(nodes[node])
+        Some(&nodes[node])
     } else {
         None
     }
@@ -53,23 +53,21 @@ pub(crate) fn decode_node(
         fail(state, node, FaultKind::TooDeep);
         return false;
     }
-    match node_at(context.tables.nodes, node) {
-        None => {
-            fail(state, node, FaultKind::NoNode);
-            false
-        }
-        Some(Node::Null) => {
+    let Some(row) = node_at(context.tables.nodes, node) else {
+        fail(state, node, FaultKind::NoNode);
+        return false;
+    };
+    match *row {
+        Node::Null => {
             push(parts, state, Part::Null);
             true
         }
-        Some(Node::Boolean) => decode_boolean(context, node, state, parts),
-        Some(
-            Node::Sequence {
-                root,
-                is_extensible,
-                additions,
-            },
-        ) => {
+        Node::Boolean => decode_boolean(context, node, state, parts),
+        Node::Sequence {
+            root,
+            is_extensible,
+            additions,
+        } => {
             decode_sequence(
                 context,
                 depth - 1,
@@ -81,7 +79,7 @@ pub(crate) fn decode_node(
                 parts,
             )
         }
-        Some(Node::Open { inner }) => {
+        Node::Open { inner } => {
             decode_enclosed(
                 context,
                 depth - 1,
@@ -94,13 +92,11 @@ pub(crate) fn decode_node(
                 parts,
             )
         }
-        Some(
-            Node::Choice {
-                alternatives,
-                is_extensible,
-                additions,
-            },
-        ) => {
+        Node::Choice {
+            alternatives,
+            is_extensible,
+            additions,
+        } => {
             decode_choice(
                 context,
                 depth - 1,
@@ -112,13 +108,11 @@ pub(crate) fn decode_node(
                 parts,
             )
         }
-        Some(
-            Node::SequenceOf {
-                length,
-                is_extensible,
-                item,
-            },
-        ) => {
+        Node::SequenceOf {
+            length,
+            is_extensible,
+            item,
+        } => {
             decode_list(
                 context,
                 depth - 1,
@@ -131,13 +125,11 @@ pub(crate) fn decode_node(
                 parts,
             )
         }
-        Some(
-            Node::SetOf {
-                length,
-                is_extensible,
-                item,
-            },
-        ) => {
+        Node::SetOf {
+            length,
+            is_extensible,
+            item,
+        } => {
             decode_list(
                 context,
                 depth - 1,
@@ -150,33 +142,25 @@ pub(crate) fn decode_node(
                 parts,
             )
         }
-        Some(
-            Node::IntegerBetween {
-                bounds,
-                is_extensible,
-            },
-        ) => decode_integer_between(context, bounds, is_extensible, node, state, parts),
-        Some(
-            Node::IntegerAtLeast {
-                bound,
-                is_extensible,
-            },
-        ) => decode_integer_at_least(context, bound, is_extensible, node, state, parts),
-        Some(Node::Integer) => decode_integer(context, node, state, parts),
-        Some(
-            Node::Enumerated {
-                last,
-                is_extensible,
-                additions,
-            },
-        ) => decode_enumerated(context, last, is_extensible, additions, node, state, parts),
-        Some(
-            Node::BitString {
-                length,
-                is_extensible,
-                has_names,
-            },
-        ) => decode_bit_string(
+        Node::IntegerBetween {
+            bounds,
+            is_extensible,
+        } => decode_integer_between(context, bounds, is_extensible, node, state, parts),
+        Node::IntegerAtLeast {
+            bound,
+            is_extensible,
+        } => decode_integer_at_least(context, bound, is_extensible, node, state, parts),
+        Node::Integer => decode_integer(context, node, state, parts),
+        Node::Enumerated {
+            last,
+            is_extensible,
+            additions,
+        } => decode_enumerated(context, last, is_extensible, additions, node, state, parts),
+        Node::BitString {
+            length,
+            is_extensible,
+            has_names,
+        } => decode_bit_string(
             context,
             length,
             is_extensible,
@@ -185,20 +169,16 @@ pub(crate) fn decode_node(
             state,
             parts,
         ),
-        Some(
-            Node::OctetString {
-                length,
-                is_extensible,
-            },
-        ) => decode_octet_string(context, length, is_extensible, node, state, parts),
-        Some(
-            Node::Text {
-                length,
-                is_extensible,
-                alphabet,
-                whole,
-            },
-        ) => decode_text(
+        Node::OctetString {
+            length,
+            is_extensible,
+        } => decode_octet_string(context, length, is_extensible, node, state, parts),
+        Node::Text {
+            length,
+            is_extensible,
+            alphabet,
+            whole,
+        } => decode_text(
             context,
             length,
             is_extensible,
@@ -208,10 +188,10 @@ pub(crate) fn decode_node(
             state,
             parts,
         ),
-        Some(Node::ObjectIdentifier) => decode_object_identifier(context, node, state, parts),
-        Some(Node::RelativeIdentifier) => decode_relative_identifier(context, node, state, parts),
-        Some(Node::Utf8String) => decode_utf8_string(context, node, state, parts),
-        Some(Node::Real) => decode_real(context, node, state, parts),
-        Some(Node::Time { kind }) => decode_time(context, kind, node, state, parts),
+        Node::ObjectIdentifier => decode_object_identifier(context, node, state, parts),
+        Node::RelativeIdentifier => decode_relative_identifier(context, node, state, parts),
+        Node::Utf8String => decode_utf8_string(context, node, state, parts),
+        Node::Real => decode_real(context, node, state, parts),
+        Node::Time { kind } => decode_time(context, kind, node, state, parts),
     }
 }

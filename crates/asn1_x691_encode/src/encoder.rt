@@ -1,6 +1,6 @@
 //! Encodes a value of any type.
 
-ghost use Rattle.std.specs.Prelude.{Option, ◌≡◌, ℕ, Bool, List, ◌-◌, ◌*◌, ◌^◌, ◌<◌, length, slice_get};
+ghost use Rattle.std.specs.Prelude.{Option, Some, None, MatchOption, ◌≡◌, ℕ, Bool, List, ◌-◌, ◌*◌, ◌^◌, ◌<◌, length, slice_get};
 ghost use Rattle.asn1_x691_encode.specs.Encoding.{Outcome, types};
 
 use crate::choice::{encode_choice, encode_extensible_choice};
@@ -19,11 +19,11 @@ use asn1_x691_writers::{ContentsKind, Writer, reject};
 
 /// Returns the type at a node.
 #[inline(always)]
-fn node_at(nodes: &[Node], node: usize) -> Option<Node>
-    ensures { result ≡ slice_get nodes.now node }
+fn node_at(nodes: &[Node], node: usize) -> Option<&Node>
+    ensures { MatchOption result (None ≡ slice_get nodes.now node) (λ row. Some row.now ≡ slice_get nodes.now node) }
 {
     if node < nodes.len() {
-        Some(nodes[node])
+        Some(&nodes[node])
     } else {
         None
     }
@@ -52,30 +52,26 @@ pub fn encode_node(
     if depth == 0 {
         return reject(state, node, MisfitKind::TooDeep);
     }
-    match node_at(context.tables.nodes, node) {
-        None => reject(state, node, MisfitKind::NoNode),
-        Some(Node::Null) => encode_null(context, node, octets, state),
-        Some(Node::Boolean) => encode_boolean(context, node, octets, state),
-        Some(
-            Node::IntegerBetween {
-                bounds,
-                is_extensible,
-            },
-        ) => { encode_between(context, bounds, is_extensible, node, octets, state) }
-        Some(
-            Node::IntegerAtLeast {
-                bound,
-                is_extensible,
-            },
-        ) => { encode_at_least(context, bound, is_extensible, node, octets, state) }
-        Some(Node::Integer) => encode_integer(context, node, octets, state),
-        Some(
-            Node::Enumerated {
-                last,
-                is_extensible,
-                additions,
-            },
-        ) => {
+    let Some(row) = node_at(context.tables.nodes, node) else {
+        return reject(state, node, MisfitKind::NoNode);
+    };
+    match *row {
+        Node::Null => encode_null(context, node, octets, state),
+        Node::Boolean => encode_boolean(context, node, octets, state),
+        Node::IntegerBetween {
+            bounds,
+            is_extensible,
+        } => { encode_between(context, bounds, is_extensible, node, octets, state) }
+        Node::IntegerAtLeast {
+            bound,
+            is_extensible,
+        } => { encode_at_least(context, bound, is_extensible, node, octets, state) }
+        Node::Integer => encode_integer(context, node, octets, state),
+        Node::Enumerated {
+            last,
+            is_extensible,
+            additions,
+        } => {
             encode_enumerated(
                 context,
                 last as usize,
@@ -86,13 +82,11 @@ pub fn encode_node(
                 state,
             )
         }
-        Some(
-            Node::BitString {
-                length,
-                is_extensible,
-                has_names,
-            },
-        ) => {
+        Node::BitString {
+            length,
+            is_extensible,
+            has_names,
+        } => {
             encode_bits(
                 context,
                 length,
@@ -103,20 +97,16 @@ pub fn encode_node(
                 state,
             )
         }
-        Some(
-            Node::OctetString {
-                length,
-                is_extensible,
-            },
-        ) => { encode_octets(context, length, is_extensible, node, octets, state) }
-        Some(
-            Node::Text {
-                length,
-                is_extensible,
-                alphabet,
-                whole,
-            },
-        ) => {
+        Node::OctetString {
+            length,
+            is_extensible,
+        } => { encode_octets(context, length, is_extensible, node, octets, state) }
+        Node::Text {
+            length,
+            is_extensible,
+            alphabet,
+            whole,
+        } => {
             encode_text(
                 context,
                 length,
@@ -128,10 +118,10 @@ pub fn encode_node(
                 state,
             )
         }
-        Some(Node::ObjectIdentifier) => {
+        Node::ObjectIdentifier => {
             encode_contents(context, ContentsKind::ObjectIdentifier, node, octets, state)
         }
-        Some(Node::RelativeIdentifier) => {
+        Node::RelativeIdentifier => {
             encode_contents(
                 context,
                 ContentsKind::RelativeIdentifier,
@@ -140,18 +130,14 @@ pub fn encode_node(
                 state,
             )
         }
-        Some(Node::Utf8String) => {
-            encode_contents(context, ContentsKind::Utf8, node, octets, state)
-        }
-        Some(Node::Real) => encode_contents(context, ContentsKind::Real, node, octets, state),
-        Some(Node::Time { kind }) => encode_time(context, kind, node, octets, state),
-        Some(
-            Node::Sequence {
-                root,
-                is_extensible,
-                additions,
-            },
-        ) => {
+        Node::Utf8String => { encode_contents(context, ContentsKind::Utf8, node, octets, state) }
+        Node::Real => encode_contents(context, ContentsKind::Real, node, octets, state),
+        Node::Time { kind } => encode_time(context, kind, node, octets, state),
+        Node::Sequence {
+            root,
+            is_extensible,
+            additions,
+        } => {
             if is_extensible {
                 return encode_extensible_sequence(
                     context,
@@ -165,13 +151,11 @@ pub fn encode_node(
             }
             encode_sequence(context, depth - 1, node, root, octets, state)
         }
-        Some(
-            Node::SequenceOf {
-                length,
-                is_extensible,
-                item,
-            },
-        ) => {
+        Node::SequenceOf {
+            length,
+            is_extensible,
+            item,
+        } => {
             encode_list_by(
                 context,
                 depth - 1,
@@ -184,13 +168,11 @@ pub fn encode_node(
                 state,
             )
         }
-        Some(
-            Node::SetOf {
-                length,
-                is_extensible,
-                item,
-            },
-        ) => {
+        Node::SetOf {
+            length,
+            is_extensible,
+            item,
+        } => {
             encode_list_by(
                 context,
                 depth - 1,
@@ -203,13 +185,11 @@ pub fn encode_node(
                 state,
             )
         }
-        Some(
-            Node::Choice {
-                alternatives,
-                is_extensible,
-                additions,
-            },
-        ) => {
+        Node::Choice {
+            alternatives,
+            is_extensible,
+            additions,
+        } => {
             if is_extensible {
                 return encode_extensible_choice(
                     context,
@@ -223,7 +203,7 @@ pub fn encode_node(
             }
             encode_choice(context, depth - 1, node, alternatives, octets, state)
         }
-        Some(Node::Open { inner }) => {
+        Node::Open { inner } => {
             encode_open_type(
                 context,
                 depth - 1,

@@ -21,6 +21,7 @@ pub(crate) struct Interval {
 }
 
 /// Returns whether so many numbers of `width` bits, from bit `at` on, are all in an interval.
+#[inline(always)]
 pub(crate) fn are_in(
     octets: &[u8],
     width: usize,

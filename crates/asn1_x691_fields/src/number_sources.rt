@@ -54,3 +54,22 @@ impl NumberSource for NumbersAt<'_> {
         number_at(self.octets, self.at + self.width * index, self.width)
     }
 }
+
+/// Octets, as numbers one after another.
+#[derive(Clone, Copy, Debug)]
+pub(crate) struct OctetNumbers<'s> {
+    /// The octets.
+    pub(crate) octets: &'s [u8],
+}
+
+impl NumberSource for OctetNumbers<'_> {
+    ghost list = { λ s. s.octets.now };
+
+    fn count(&self) -> usize {
+        self.octets.len()
+    }
+
+    fn number(&self, index: usize) -> u64 {
+        u64::from(self.octets[index])
+    }
+}

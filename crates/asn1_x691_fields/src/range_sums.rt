@@ -29,6 +29,33 @@ pub(crate) fn sums_of(ranges: &[Range]) -> RangeSums
 {
     let mut count: u64 = 0;
     let mut end: u64 = 0;
+    for range in ranges {
+        let (first, last) = (range.first as u64, range.last as u64);
+        if first < end || last < first {
+            return sums_of_any(ranges);
+        }
+        count += last - first + 1;
+        end = last + 1;
+    }
+    RangeSums {
+        count,
+        end,
+        are_ascending: true,
+    }
+}
+
+/// Returns what ranges tell together, in any order.
+#[cold]
+#[inline(never)]
+fn sums_of_any(ranges: &[Range]) -> RangeSums
+    requires { length ranges.now < 2 ^ 32 }
+    ensures count { result.count ≡ count_of ranges.now }
+    ensures end { result.end ≡ end_of ranges.now }
+    ensures small { (c : ℕ) → IsIn ranges.now c → c < 2 ^ 32 }
+    ensures ascending { result.are_ascending ≡ true → AreAscending 0 ranges.now }
+{
+    let mut count: u64 = 0;
+    let mut end: u64 = 0;
     let mut are_ascending = true;
     for range in ranges {
         let (first, after) = (range.first as u64, range.last as u64 + 1);

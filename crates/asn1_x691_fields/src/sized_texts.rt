@@ -174,6 +174,9 @@ fn next_characters_of(
     ensures read { IsRead (sized_characters alphabet.now.is_aligned alphabet.now.ranges.now node least range count)
         (λ at. characters_at alphabet.now (bits octets.now) at count) (bits octets.now) state.old state.new result }
 {
+    if !alphabet.is_aligned {
+        return next_characters(octets, alphabet, count, node, state);
+    }
     if is_inline_text(alphabet.width, least, range, count) {
         return next_characters(octets, alphabet, count, node, state);
     }

@@ -12,10 +12,11 @@ ghost use Rattle.asn1_x691_fields.specs.Characters.{IsAlphabet};
 ghost use Rattle.asn1_x691_fields.specs.Outcomes.{IsWithin, IsOnward, IsRead, IsPlaced};
 
 use crate::alphabets::{Alphabet, alphabet_of};
-use crate::number_sources::NumbersAt;
+use crate::number_sources::{NumbersAt, OctetNumbers};
+use crate::octets::whole_octets;
 use crate::sized_texts::next_long_text;
 use crate::state::{State, fail};
-use asn1_schema::{Characters, Codes, Part, Range, TimeKind, is_time};
+use asn1_schema::{Characters, Codes, Part, Range, Span, TimeKind, is_time};
 use asn1_x691::FaultKind;
 
 /// The characters of a VisibleString (X.680 41).
@@ -43,6 +44,15 @@ pub fn is_time_at(message: &[u8], at: usize, width: usize, count: usize, kind: T
     requires inside { at + width * count ≤ 8 * length message.now }
     ensures { Decides result (IsTime kind (numbers_in width count (drop at (bits message.now)))) }
 {
+    if width == 8 {
+        let span = Span {
+            at,
+            count: 8 * count,
+        };
+        if let Some(own) = whole_octets(message, span) {
+            return is_time(&OctetNumbers { octets: own }, kind);
+        }
+    }
     let characters = NumbersAt::new(message, at, width, count);
     is_time(&characters, kind)
 }

@@ -15,59 +15,59 @@ use Rattle.asn1_x691_decode.proofs.+decoding.Answers.Lists as lists
 use Rattle.asn1_x691_decode.proofs.+decoding.Answers.Sets as sets
 use Rattle.asn1_x691_decode.proofs.+decoding.Goals as goal
 
-pub decoder::decode_node-returns-in-Some-Null-clause-did : goal.decoder::decode_node-returns-in-Some-Null-clause-did
-decoder::decode_node-returns-in-Some-Null-clause-did = nodes.decode_node-returns-in-Some-Null-clause-did
+pub decoder::decode_node-returns-in-Null-clause-did : goal.decoder::decode_node-returns-in-Null-clause-did
+decoder::decode_node-returns-in-Null-clause-did = nodes.decode_node-returns-in-Null-clause-did
 
-pub decoder::decode_node-returns-in-Some-Boolean-clause-did : goal.decoder::decode_node-returns-in-Some-Boolean-clause-did
-decoder::decode_node-returns-in-Some-Boolean-clause-did = nodes.decode_node-returns-in-Some-Boolean-clause-did
+pub decoder::decode_node-returns-in-Boolean-clause-did : goal.decoder::decode_node-returns-in-Boolean-clause-did
+decoder::decode_node-returns-in-Boolean-clause-did = nodes.decode_node-returns-in-Boolean-clause-did
 
-pub decoder::decode_node-returns-in-Some-Sequence-clause-did : goal.decoder::decode_node-returns-in-Some-Sequence-clause-did
-decoder::decode_node-returns-in-Some-Sequence-clause-did = nodes.decode_node-returns-in-Some-Sequence-clause-did
+pub decoder::decode_node-returns-in-Sequence-clause-did : goal.decoder::decode_node-returns-in-Sequence-clause-did
+decoder::decode_node-returns-in-Sequence-clause-did = nodes.decode_node-returns-in-Sequence-clause-did
 
-pub decoder::decode_node-returns-in-Some-Open-clause-did : goal.decoder::decode_node-returns-in-Some-Open-clause-did
-decoder::decode_node-returns-in-Some-Open-clause-did = nodes.decode_node-returns-in-Some-Open-clause-did
+pub decoder::decode_node-returns-in-Open-clause-did : goal.decoder::decode_node-returns-in-Open-clause-did
+decoder::decode_node-returns-in-Open-clause-did = nodes.decode_node-returns-in-Open-clause-did
 
-pub decoder::decode_node-returns-in-Some-Choice-clause-did : goal.decoder::decode_node-returns-in-Some-Choice-clause-did
-decoder::decode_node-returns-in-Some-Choice-clause-did = nodes.decode_node-returns-in-Some-Choice-clause-did
+pub decoder::decode_node-returns-in-Choice-clause-did : goal.decoder::decode_node-returns-in-Choice-clause-did
+decoder::decode_node-returns-in-Choice-clause-did = nodes.decode_node-returns-in-Choice-clause-did
 
-pub decoder::decode_node-returns-in-Some-SequenceOf-clause-did : goal.decoder::decode_node-returns-in-Some-SequenceOf-clause-did
-decoder::decode_node-returns-in-Some-SequenceOf-clause-did = nodes.decode_node-returns-in-Some-SequenceOf-clause-did
+pub decoder::decode_node-returns-in-SequenceOf-clause-did : goal.decoder::decode_node-returns-in-SequenceOf-clause-did
+decoder::decode_node-returns-in-SequenceOf-clause-did = nodes.decode_node-returns-in-SequenceOf-clause-did
 
-pub decoder::decode_node-returns-in-Some-SetOf-clause-did : goal.decoder::decode_node-returns-in-Some-SetOf-clause-did
-decoder::decode_node-returns-in-Some-SetOf-clause-did = nodes.decode_node-returns-in-Some-SetOf-clause-did
+pub decoder::decode_node-returns-in-SetOf-clause-did : goal.decoder::decode_node-returns-in-SetOf-clause-did
+decoder::decode_node-returns-in-SetOf-clause-did = nodes.decode_node-returns-in-SetOf-clause-did
 
-pub decoder::decode_node-returns-in-Some-ObjectIdentifier-clause-did : goal.decoder::decode_node-returns-in-Some-ObjectIdentifier-clause-did
-decoder::decode_node-returns-in-Some-ObjectIdentifier-clause-did = nodes.decode_node-returns-in-Some-ObjectIdentifier-clause-did
+pub decoder::decode_node-returns-in-ObjectIdentifier-clause-did : goal.decoder::decode_node-returns-in-ObjectIdentifier-clause-did
+decoder::decode_node-returns-in-ObjectIdentifier-clause-did = nodes.decode_node-returns-in-ObjectIdentifier-clause-did
 
-pub decoder::decode_node-returns-in-Some-RelativeIdentifier-clause-did : goal.decoder::decode_node-returns-in-Some-RelativeIdentifier-clause-did
-decoder::decode_node-returns-in-Some-RelativeIdentifier-clause-did = nodes.decode_node-returns-in-Some-RelativeIdentifier-clause-did
+pub decoder::decode_node-returns-in-RelativeIdentifier-clause-did : goal.decoder::decode_node-returns-in-RelativeIdentifier-clause-did
+decoder::decode_node-returns-in-RelativeIdentifier-clause-did = nodes.decode_node-returns-in-RelativeIdentifier-clause-did
 
-pub decoder::decode_node-returns-in-Some-Utf8String-clause-did : goal.decoder::decode_node-returns-in-Some-Utf8String-clause-did
-decoder::decode_node-returns-in-Some-Utf8String-clause-did = nodes.decode_node-returns-in-Some-Utf8String-clause-did
+pub decoder::decode_node-returns-in-Utf8String-clause-did : goal.decoder::decode_node-returns-in-Utf8String-clause-did
+decoder::decode_node-returns-in-Utf8String-clause-did = nodes.decode_node-returns-in-Utf8String-clause-did
 
-pub decoder::decode_node-returns-in-Some-Real-clause-did : goal.decoder::decode_node-returns-in-Some-Real-clause-did
-decoder::decode_node-returns-in-Some-Real-clause-did = nodes.decode_node-returns-in-Some-Real-clause-did
+pub decoder::decode_node-returns-in-Real-clause-did : goal.decoder::decode_node-returns-in-Real-clause-did
+decoder::decode_node-returns-in-Real-clause-did = nodes.decode_node-returns-in-Real-clause-did
 
-pub decoder::decode_node-returns-in-Some-Time-clause-did : goal.decoder::decode_node-returns-in-Some-Time-clause-did
-decoder::decode_node-returns-in-Some-Time-clause-did = nodes.decode_node-returns-in-Some-Time-clause-did
+pub decoder::decode_node-returns-in-Time-clause-did : goal.decoder::decode_node-returns-in-Time-clause-did
+decoder::decode_node-returns-in-Time-clause-did = nodes.decode_node-returns-in-Time-clause-did
 
-pub decoder::decode_node-returns-in-Some-IntegerBetween-clause-did : goal.decoder::decode_node-returns-in-Some-IntegerBetween-clause-did
-decoder::decode_node-returns-in-Some-IntegerBetween-clause-did = nodes.decode_node-returns-in-Some-IntegerBetween-clause-did
+pub decoder::decode_node-returns-in-IntegerBetween-clause-did : goal.decoder::decode_node-returns-in-IntegerBetween-clause-did
+decoder::decode_node-returns-in-IntegerBetween-clause-did = nodes.decode_node-returns-in-IntegerBetween-clause-did
 
-pub decoder::decode_node-returns-in-Some-IntegerAtLeast-clause-did : goal.decoder::decode_node-returns-in-Some-IntegerAtLeast-clause-did
-decoder::decode_node-returns-in-Some-IntegerAtLeast-clause-did = nodes.decode_node-returns-in-Some-IntegerAtLeast-clause-did
+pub decoder::decode_node-returns-in-IntegerAtLeast-clause-did : goal.decoder::decode_node-returns-in-IntegerAtLeast-clause-did
+decoder::decode_node-returns-in-IntegerAtLeast-clause-did = nodes.decode_node-returns-in-IntegerAtLeast-clause-did
 
-pub decoder::decode_node-returns-in-Some-Integer-clause-did : goal.decoder::decode_node-returns-in-Some-Integer-clause-did
-decoder::decode_node-returns-in-Some-Integer-clause-did = nodes.decode_node-returns-in-Some-Integer-clause-did
+pub decoder::decode_node-returns-in-Integer-clause-did : goal.decoder::decode_node-returns-in-Integer-clause-did
+decoder::decode_node-returns-in-Integer-clause-did = nodes.decode_node-returns-in-Integer-clause-did
 
-pub decoder::decode_node-returns-in-Some-Enumerated-clause-did : goal.decoder::decode_node-returns-in-Some-Enumerated-clause-did
-decoder::decode_node-returns-in-Some-Enumerated-clause-did = nodes.decode_node-returns-in-Some-Enumerated-clause-did
+pub decoder::decode_node-returns-in-Enumerated-clause-did : goal.decoder::decode_node-returns-in-Enumerated-clause-did
+decoder::decode_node-returns-in-Enumerated-clause-did = nodes.decode_node-returns-in-Enumerated-clause-did
 
-pub decoder::decode_node-returns-in-Some-BitString-clause-did : goal.decoder::decode_node-returns-in-Some-BitString-clause-did
-decoder::decode_node-returns-in-Some-BitString-clause-did = nodes.decode_node-returns-in-Some-BitString-clause-did
+pub decoder::decode_node-returns-in-BitString-clause-did : goal.decoder::decode_node-returns-in-BitString-clause-did
+decoder::decode_node-returns-in-BitString-clause-did = nodes.decode_node-returns-in-BitString-clause-did
 
-pub decoder::decode_node-returns-in-Some-OctetString-clause-did : goal.decoder::decode_node-returns-in-Some-OctetString-clause-did
-decoder::decode_node-returns-in-Some-OctetString-clause-did = nodes.decode_node-returns-in-Some-OctetString-clause-did
+pub decoder::decode_node-returns-in-OctetString-clause-did : goal.decoder::decode_node-returns-in-OctetString-clause-did
+decoder::decode_node-returns-in-OctetString-clause-did = nodes.decode_node-returns-in-OctetString-clause-did
 
 pub sequence::decode_component-returns-in-Some-false : goal.sequence::decode_component-returns-in-Some-false
 sequence::decode_component-returns-in-Some-false = sequences.decode_component-returns-in-Some-false
@@ -231,5 +231,5 @@ set::decode_item-returns-clause-did = sets.decode_item-returns-clause-did
 pub set::decode_item-is_before-requires-clause-inside : goal.set::decode_item-is_before-requires-clause-inside
 set::decode_item-is_before-requires-clause-inside = sets.decode_item-is_before-requires-clause-inside
 
-pub decoder::decode_node-returns-in-Some-Text-clause-did : goal.decoder::decode_node-returns-in-Some-Text-clause-did
-decoder::decode_node-returns-in-Some-Text-clause-did = nodes.decode_node-returns-in-Some-Text-clause-did
+pub decoder::decode_node-returns-in-Text-clause-did : goal.decoder::decode_node-returns-in-Text-clause-did
+decoder::decode_node-returns-in-Text-clause-did = nodes.decode_node-returns-in-Text-clause-did

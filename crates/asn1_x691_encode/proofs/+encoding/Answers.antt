@@ -25,47 +25,47 @@ use Rattle.asn1_x691_encode.proofs.+encoding.Answers.Values as values
 use Rattle.asn1_x691_encode.proofs.+encoding.Answers.Sets as sets
 use Rattle.asn1_x691_encode.proofs.+encoding.Goals as goal
 
-pub encoder::encode_node-returns-in-Some-Null : goal.encoder::encode_node-returns-in-Some-Null
-encoder::encode_node-returns-in-Some-Null = nodes.encode_node-returns-in-Some-Null
+pub encoder::encode_node-returns-in-Null : goal.encoder::encode_node-returns-in-Null
+encoder::encode_node-returns-in-Null = nodes.encode_node-returns-in-Null
 
-pub encoder::encode_node-returns-in-Some-Boolean : goal.encoder::encode_node-returns-in-Some-Boolean
-encoder::encode_node-returns-in-Some-Boolean = nodes.encode_node-returns-in-Some-Boolean
+pub encoder::encode_node-returns-in-Boolean : goal.encoder::encode_node-returns-in-Boolean
+encoder::encode_node-returns-in-Boolean = nodes.encode_node-returns-in-Boolean
 
-pub encoder::encode_node-returns-in-Some-IntegerBetween : goal.encoder::encode_node-returns-in-Some-IntegerBetween
-encoder::encode_node-returns-in-Some-IntegerBetween = nodes.encode_node-returns-in-Some-IntegerBetween
+pub encoder::encode_node-returns-in-IntegerBetween : goal.encoder::encode_node-returns-in-IntegerBetween
+encoder::encode_node-returns-in-IntegerBetween = nodes.encode_node-returns-in-IntegerBetween
 
-pub encoder::encode_node-returns-in-Some-IntegerAtLeast : goal.encoder::encode_node-returns-in-Some-IntegerAtLeast
-encoder::encode_node-returns-in-Some-IntegerAtLeast = nodes.encode_node-returns-in-Some-IntegerAtLeast
+pub encoder::encode_node-returns-in-IntegerAtLeast : goal.encoder::encode_node-returns-in-IntegerAtLeast
+encoder::encode_node-returns-in-IntegerAtLeast = nodes.encode_node-returns-in-IntegerAtLeast
 
-pub encoder::encode_node-returns-in-Some-Integer : goal.encoder::encode_node-returns-in-Some-Integer
-encoder::encode_node-returns-in-Some-Integer = nodes.encode_node-returns-in-Some-Integer
+pub encoder::encode_node-returns-in-Integer : goal.encoder::encode_node-returns-in-Integer
+encoder::encode_node-returns-in-Integer = nodes.encode_node-returns-in-Integer
 
-pub encoder::encode_node-returns-in-Some-Enumerated : goal.encoder::encode_node-returns-in-Some-Enumerated
-encoder::encode_node-returns-in-Some-Enumerated = nodes.encode_node-returns-in-Some-Enumerated
+pub encoder::encode_node-returns-in-Enumerated : goal.encoder::encode_node-returns-in-Enumerated
+encoder::encode_node-returns-in-Enumerated = nodes.encode_node-returns-in-Enumerated
 
-pub encoder::encode_node-returns-in-Some-BitString : goal.encoder::encode_node-returns-in-Some-BitString
-encoder::encode_node-returns-in-Some-BitString = nodes.encode_node-returns-in-Some-BitString
+pub encoder::encode_node-returns-in-BitString : goal.encoder::encode_node-returns-in-BitString
+encoder::encode_node-returns-in-BitString = nodes.encode_node-returns-in-BitString
 
-pub encoder::encode_node-returns-in-Some-OctetString : goal.encoder::encode_node-returns-in-Some-OctetString
-encoder::encode_node-returns-in-Some-OctetString = nodes.encode_node-returns-in-Some-OctetString
+pub encoder::encode_node-returns-in-OctetString : goal.encoder::encode_node-returns-in-OctetString
+encoder::encode_node-returns-in-OctetString = nodes.encode_node-returns-in-OctetString
 
-pub encoder::encode_node-returns-in-Some-ObjectIdentifier : goal.encoder::encode_node-returns-in-Some-ObjectIdentifier
-encoder::encode_node-returns-in-Some-ObjectIdentifier = contents.encode_node-returns-in-Some-ObjectIdentifier
+pub encoder::encode_node-returns-in-ObjectIdentifier : goal.encoder::encode_node-returns-in-ObjectIdentifier
+encoder::encode_node-returns-in-ObjectIdentifier = contents.encode_node-returns-in-ObjectIdentifier
 
-pub encoder::encode_node-returns-in-Some-RelativeIdentifier : goal.encoder::encode_node-returns-in-Some-RelativeIdentifier
-encoder::encode_node-returns-in-Some-RelativeIdentifier = contents.encode_node-returns-in-Some-RelativeIdentifier
+pub encoder::encode_node-returns-in-RelativeIdentifier : goal.encoder::encode_node-returns-in-RelativeIdentifier
+encoder::encode_node-returns-in-RelativeIdentifier = contents.encode_node-returns-in-RelativeIdentifier
 
-pub encoder::encode_node-returns-in-Some-Utf8String : goal.encoder::encode_node-returns-in-Some-Utf8String
-encoder::encode_node-returns-in-Some-Utf8String = contents.encode_node-returns-in-Some-Utf8String
+pub encoder::encode_node-returns-in-Utf8String : goal.encoder::encode_node-returns-in-Utf8String
+encoder::encode_node-returns-in-Utf8String = contents.encode_node-returns-in-Utf8String
 
-pub encoder::encode_node-returns-in-Some-Real : goal.encoder::encode_node-returns-in-Some-Real
-encoder::encode_node-returns-in-Some-Real = contents.encode_node-returns-in-Some-Real
+pub encoder::encode_node-returns-in-Real : goal.encoder::encode_node-returns-in-Real
+encoder::encode_node-returns-in-Real = contents.encode_node-returns-in-Real
 
-pub encoder::encode_node-returns-in-Some-Time : goal.encoder::encode_node-returns-in-Some-Time
-encoder::encode_node-returns-in-Some-Time = contents.encode_node-returns-in-Some-Time
+pub encoder::encode_node-returns-in-Time : goal.encoder::encode_node-returns-in-Time
+encoder::encode_node-returns-in-Time = contents.encode_node-returns-in-Time
 
-pub encoder::encode_node-returns-in-Some-Text : goal.encoder::encode_node-returns-in-Some-Text
-encoder::encode_node-returns-in-Some-Text = contents.encode_node-returns-in-Some-Text
+pub encoder::encode_node-returns-in-Text : goal.encoder::encode_node-returns-in-Text
+encoder::encode_node-returns-in-Text = contents.encode_node-returns-in-Text
 
 pub encoder::encode_node-returns-else-is_extensible : goal.encoder::encode_node-returns-else-is_extensible
 encoder::encode_node-returns-else-is_extensible = nodes.encode_node-returns-else-is_extensible
@@ -235,8 +235,8 @@ additions::encode_present-returns-then-not-encode_optional_addition = additions.
 pub additions::encode_present-returns-then-not-has_one : goal.additions::encode_present-returns-then-not-has_one
 additions::encode_present-returns-then-not-has_one = additions.encode_present-returns-then-not-has_one
 
-pub encoder::encode_node-returns-in-Some-Open : goal.encoder::encode_node-returns-in-Some-Open
-encoder::encode_node-returns-in-Some-Open = morenodes.encode_node-returns-in-Some-Open
+pub encoder::encode_node-returns-in-Open : goal.encoder::encode_node-returns-in-Open
+encoder::encode_node-returns-in-Open = morenodes.encode_node-returns-in-Open
 
 pub encoder::encode_node-returns-then-is_extensible : goal.encoder::encode_node-returns-then-is_extensible
 encoder::encode_node-returns-then-is_extensible = morenodes.encode_node-returns-then-is_extensible
@@ -277,11 +277,11 @@ additions::encode_known-returns-in-Some = additions.encode_known-returns-in-Some
 pub sequence::encode_component-returns-in_default : goal.sequence::encode_component-returns-in_default
 sequence::encode_component-returns-in_default = sequences.encode_component-returns-in_default
 
-pub encoder::encode_node-returns-in-Some-SequenceOf : goal.encoder::encode_node-returns-in-Some-SequenceOf
-encoder::encode_node-returns-in-Some-SequenceOf = nodes.encode_node-returns-in-Some-SequenceOf
+pub encoder::encode_node-returns-in-SequenceOf : goal.encoder::encode_node-returns-in-SequenceOf
+encoder::encode_node-returns-in-SequenceOf = nodes.encode_node-returns-in-SequenceOf
 
-pub encoder::encode_node-returns-in-Some-SetOf : goal.encoder::encode_node-returns-in-Some-SetOf
-encoder::encode_node-returns-in-Some-SetOf = nodes.encode_node-returns-in-Some-SetOf
+pub encoder::encode_node-returns-in-SetOf : goal.encoder::encode_node-returns-in-SetOf
+encoder::encode_node-returns-in-SetOf = nodes.encode_node-returns-in-SetOf
 
 pub open_type::encode_octets-returns-then-not-encode_value : goal.open_type::encode_octets-returns-then-not-encode_value
 open_type::encode_octets-returns-then-not-encode_value = opentypes.encode_octets-returns-then-not-encode_value

@@ -18,175 +18,175 @@ use Rattle.asn1_x691.specs.Leaves.{integer_between_by, integer_at_least_by, inte
 use Rattle.asn1_x691_decode.proofs.Steps.{kept_outcome}
 use Rattle.asn1_x691_decode.proofs.+decoding.Goals as goal
 
-pub decode_node-returns-in-Some-Null-clause-did : goal.decoder::decode_node-returns-in-Some-Null-clause-did
-decode_node-returns-in-Some-Null-clause-did t c =
+pub decode_node-returns-in-Null-clause-did : goal.decoder::decode_node-returns-in-Null-clause-did
+decode_node-returns-in-Null-clause-did t c =
     let cx = c.args.context.now in
     let list = bits cx.octets.now in
     at_node cx c.args.node c.args.depth (Some type.Null)
     (λ (A : ℕ → Encoding FaultKind Parts). IsDecoded cx.tables.ranges.now (A (position c.args.state.now)).encodes list c.args.state.now c.push.new.state c.args.parts.now c.push.new.parts)
-    (omega (arith, c.if-depth-eq0.false)) (sym c.node_at.ensures ∙ c.in-Some-Null.is ∙ ap (λ (n : Node). Some n) c.in-Some-Null.field-0-is)
+    (omega (arith, c.if-depth-eq0.false)) (sym c.in-Some.ensures ∙ ap (λ (n : Node). Some n) c.in-Null.is)
     ((put_step cx Null (λ at. constant []) c.args.state.now c.push.new.state c.args.parts.now c.push.new.parts c.requires.within
     (record { at = c.push.ensures.at; first = c.push.ensures.first; end = c.push.ensures.end }) (c.push.ensures.grown cx.tables.ranges.now list)).done
     c.push.new.state c.push.new.parts (nothing_decoded cx c.push.new.state c.push.new.parts))
 
-pub decode_node-returns-in-Some-Boolean-clause-did : goal.decoder::decode_node-returns-in-Some-Boolean-clause-did
-decode_node-returns-in-Some-Boolean-clause-did t c =
+pub decode_node-returns-in-Boolean-clause-did : goal.decoder::decode_node-returns-in-Boolean-clause-did
+decode_node-returns-in-Boolean-clause-did t c =
     let cx = c.args.context.now in
     at_node cx c.args.node c.args.depth (Some type.Boolean)
     (λ (A : ℕ → Encoding FaultKind Parts). Outcome cx A c.args.state.now c.decode_boolean.new.state c.args.parts.now c.decode_boolean.new.parts
     c.decode_boolean.result)
-    (omega (arith, c.if-depth-eq0.false)) (sym c.node_at.ensures ∙ c.in-Some-Boolean.is ∙ ap (λ (n : Node). Some n) c.in-Some-Boolean.field-0-is)
+    (omega (arith, c.if-depth-eq0.false)) (sym c.in-Some.ensures ∙ ap (λ (n : Node). Some n) c.in-Boolean.is)
     c.decode_boolean.ensures.did
 
-pub decode_node-returns-in-Some-Sequence-clause-did : goal.decoder::decode_node-returns-in-Some-Sequence-clause-did
-decode_node-returns-in-Some-Sequence-clause-did t c =
+pub decode_node-returns-in-Sequence-clause-did : goal.decoder::decode_node-returns-in-Sequence-clause-did
+decode_node-returns-in-Sequence-clause-did t c =
     let cx = c.args.context.now in
-    at_node cx c.args.node c.args.depth (Some (type.Sequence c.in-Some-Sequence.root c.in-Some-Sequence.is_extensible c.in-Some-Sequence.additions))
+    at_node cx c.args.node c.args.depth (Some (type.Sequence c.in-Sequence.root c.in-Sequence.is_extensible c.in-Sequence.additions))
     (λ (A : ℕ → Encoding FaultKind Parts). Outcome cx A c.args.state.now c.decode_sequence.new.state c.args.parts.now c.decode_sequence.new.parts
     c.decode_sequence.result)
     (omega (arith, c.if-depth-eq0.false))
-    (sym c.node_at.ensures ∙ c.in-Some-Sequence.is ∙ ap (λ (n : Node). Some n) c.in-Some-Sequence.field-0-is) c.decode_sequence.ensures.did
+    (sym c.in-Some.ensures ∙ ap (λ (n : Node). Some n) c.in-Sequence.is) c.decode_sequence.ensures.did
 
-pub decode_node-returns-in-Some-Open-clause-did : goal.decoder::decode_node-returns-in-Some-Open-clause-did
-decode_node-returns-in-Some-Open-clause-did t c =
+pub decode_node-returns-in-Open-clause-did : goal.decoder::decode_node-returns-in-Open-clause-did
+decode_node-returns-in-Open-clause-did t c =
     let cx = c.args.context.now in
-    at_node cx c.args.node c.args.depth (Some (type.Open c.in-Some-Open.inner))
+    at_node cx c.args.node c.args.depth (Some (type.Open c.in-Open.inner))
     (λ (A : ℕ → Encoding FaultKind Parts). Outcome cx A c.args.state.now c.decode_enclosed.new.state c.args.parts.now c.decode_enclosed.new.parts
     c.decode_enclosed.result)
     (omega (arith, c.if-depth-eq0.false))
-    (sym c.node_at.ensures ∙ c.in-Some-Open.is ∙ ap (λ (n : Node). Some n) c.in-Some-Open.field-0-is) c.decode_enclosed.ensures.did
+    (sym c.in-Some.ensures ∙ ap (λ (n : Node). Some n) c.in-Open.is) c.decode_enclosed.ensures.did
 
-pub decode_node-returns-in-Some-Choice-clause-did : goal.decoder::decode_node-returns-in-Some-Choice-clause-did
-decode_node-returns-in-Some-Choice-clause-did t c =
+pub decode_node-returns-in-Choice-clause-did : goal.decoder::decode_node-returns-in-Choice-clause-did
+decode_node-returns-in-Choice-clause-did t c =
     let cx = c.args.context.now in
-    let k = c.in-Some-Choice in
+    let k = c.in-Choice in
     at_node cx c.args.node c.args.depth (Some (type.Choice k.alternatives k.is_extensible k.additions))
     (λ (B : ℕ → Encoding FaultKind Parts). Outcome cx B c.args.state.now c.decode_choice.new.state c.args.parts.now c.decode_choice.new.parts
     c.decode_choice.result)
-    (omega (arith, c.if-depth-eq0.false)) (sym c.node_at.ensures ∙ k.is ∙ ap (λ (n : Node). Some n) k.field-0-is) c.decode_choice.ensures.did
+    (omega (arith, c.if-depth-eq0.false)) (sym c.in-Some.ensures ∙ ap (λ (n : Node). Some n) k.is) c.decode_choice.ensures.did
 
-pub decode_node-returns-in-Some-SequenceOf-clause-did : goal.decoder::decode_node-returns-in-Some-SequenceOf-clause-did
-decode_node-returns-in-Some-SequenceOf-clause-did t c =
+pub decode_node-returns-in-SequenceOf-clause-did : goal.decoder::decode_node-returns-in-SequenceOf-clause-did
+decode_node-returns-in-SequenceOf-clause-did t c =
     let cx = c.args.context.now in
-    let k = c.in-Some-SequenceOf in
+    let k = c.in-SequenceOf in
     at_node cx c.args.node c.args.depth (Some (type.SequenceOf k.length k.is_extensible k.item))
     (λ (B : ℕ → Encoding FaultKind Parts). Outcome cx B c.args.state.now c.decode_list.new.state c.args.parts.now c.decode_list.new.parts
     c.decode_list.result)
-    (omega (arith, c.if-depth-eq0.false)) (sym c.node_at.ensures ∙ k.is ∙ ap (λ (n : Node). Some n) k.field-0-is) c.decode_list.ensures.did
+    (omega (arith, c.if-depth-eq0.false)) (sym c.in-Some.ensures ∙ ap (λ (n : Node). Some n) k.is) c.decode_list.ensures.did
 
-pub decode_node-returns-in-Some-SetOf-clause-did : goal.decoder::decode_node-returns-in-Some-SetOf-clause-did
-decode_node-returns-in-Some-SetOf-clause-did t c =
+pub decode_node-returns-in-SetOf-clause-did : goal.decoder::decode_node-returns-in-SetOf-clause-did
+decode_node-returns-in-SetOf-clause-did t c =
     let cx = c.args.context.now in
-    let k = c.in-Some-SetOf in
-    let p = c.decode_list-in-Some-SetOf in
+    let k = c.in-SetOf in
+    let p = c.decode_list-in-SetOf in
     at_node cx c.args.node c.args.depth (Some (type.SetOf k.length k.is_extensible k.item))
     (λ (B : ℕ → Encoding FaultKind Parts). Outcome cx B c.args.state.now p.new.state c.args.parts.now p.new.parts p.result)
-    (omega (arith, c.if-depth-eq0.false)) (sym c.node_at.ensures ∙ k.is ∙ ap (λ (n : Node). Some n) k.field-0-is) p.ensures.did
+    (omega (arith, c.if-depth-eq0.false)) (sym c.in-Some.ensures ∙ ap (λ (n : Node). Some n) k.is) p.ensures.did
 
-pub decode_node-returns-in-Some-IntegerBetween-clause-did : goal.decoder::decode_node-returns-in-Some-IntegerBetween-clause-did
-decode_node-returns-in-Some-IntegerBetween-clause-did t c =
+pub decode_node-returns-in-IntegerBetween-clause-did : goal.decoder::decode_node-returns-in-IntegerBetween-clause-did
+decode_node-returns-in-IntegerBetween-clause-did t c =
     let cx = c.args.context.now in
-    let k = c.in-Some-IntegerBetween in
+    let k = c.in-IntegerBetween in
     let p = c.decode_integer_between in
     at_node cx c.args.node c.args.depth (Some (type.IntegerBetween k.bounds k.is_extensible))
     (λ (B : ℕ → Encoding FaultKind Parts). Outcome cx B c.args.state.now p.new.state c.args.parts.now p.new.parts p.result)
-    (omega (arith, c.if-depth-eq0.false)) (sym c.node_at.ensures ∙ k.is ∙ ap (λ (n : Node). Some n) k.field-0-is) p.ensures.did
+    (omega (arith, c.if-depth-eq0.false)) (sym c.in-Some.ensures ∙ ap (λ (n : Node). Some n) k.is) p.ensures.did
 
-pub decode_node-returns-in-Some-IntegerAtLeast-clause-did : goal.decoder::decode_node-returns-in-Some-IntegerAtLeast-clause-did
-decode_node-returns-in-Some-IntegerAtLeast-clause-did t c =
+pub decode_node-returns-in-IntegerAtLeast-clause-did : goal.decoder::decode_node-returns-in-IntegerAtLeast-clause-did
+decode_node-returns-in-IntegerAtLeast-clause-did t c =
     let cx = c.args.context.now in
-    let k = c.in-Some-IntegerAtLeast in
+    let k = c.in-IntegerAtLeast in
     let p = c.decode_integer_at_least in
     at_node cx c.args.node c.args.depth (Some (type.IntegerAtLeast k.bound k.is_extensible))
     (λ (B : ℕ → Encoding FaultKind Parts). Outcome cx B c.args.state.now p.new.state c.args.parts.now p.new.parts p.result)
-    (omega (arith, c.if-depth-eq0.false)) (sym c.node_at.ensures ∙ k.is ∙ ap (λ (n : Node). Some n) k.field-0-is) p.ensures.did
+    (omega (arith, c.if-depth-eq0.false)) (sym c.in-Some.ensures ∙ ap (λ (n : Node). Some n) k.is) p.ensures.did
 
-pub decode_node-returns-in-Some-Integer-clause-did : goal.decoder::decode_node-returns-in-Some-Integer-clause-did
-decode_node-returns-in-Some-Integer-clause-did t c =
+pub decode_node-returns-in-Integer-clause-did : goal.decoder::decode_node-returns-in-Integer-clause-did
+decode_node-returns-in-Integer-clause-did t c =
     let cx = c.args.context.now in
-    let k = c.in-Some-Integer in
+    let k = c.in-Integer in
     let p = c.decode_integer in
     at_node cx c.args.node c.args.depth (Some type.Integer)
     (λ (B : ℕ → Encoding FaultKind Parts). Outcome cx B c.args.state.now p.new.state c.args.parts.now p.new.parts p.result)
-    (omega (arith, c.if-depth-eq0.false)) (sym c.node_at.ensures ∙ k.is ∙ ap (λ (n : Node). Some n) k.field-0-is) p.ensures.did
+    (omega (arith, c.if-depth-eq0.false)) (sym c.in-Some.ensures ∙ ap (λ (n : Node). Some n) k.is) p.ensures.did
 
-pub decode_node-returns-in-Some-Enumerated-clause-did : goal.decoder::decode_node-returns-in-Some-Enumerated-clause-did
-decode_node-returns-in-Some-Enumerated-clause-did t c =
+pub decode_node-returns-in-Enumerated-clause-did : goal.decoder::decode_node-returns-in-Enumerated-clause-did
+decode_node-returns-in-Enumerated-clause-did t c =
     let cx = c.args.context.now in
-    let k = c.in-Some-Enumerated in
+    let k = c.in-Enumerated in
     let p = c.decode_enumerated in
     at_node cx c.args.node c.args.depth (Some (type.Enumerated k.last k.is_extensible k.additions))
     (λ (B : ℕ → Encoding FaultKind Parts). Outcome cx B c.args.state.now p.new.state c.args.parts.now p.new.parts p.result)
-    (omega (arith, c.if-depth-eq0.false)) (sym c.node_at.ensures ∙ k.is ∙ ap (λ (n : Node). Some n) k.field-0-is) p.ensures.did
+    (omega (arith, c.if-depth-eq0.false)) (sym c.in-Some.ensures ∙ ap (λ (n : Node). Some n) k.is) p.ensures.did
 
-pub decode_node-returns-in-Some-BitString-clause-did : goal.decoder::decode_node-returns-in-Some-BitString-clause-did
-decode_node-returns-in-Some-BitString-clause-did t c =
+pub decode_node-returns-in-BitString-clause-did : goal.decoder::decode_node-returns-in-BitString-clause-did
+decode_node-returns-in-BitString-clause-did t c =
     let cx = c.args.context.now in
-    let k = c.in-Some-BitString in
+    let k = c.in-BitString in
     let p = c.decode_bit_string in
     at_node cx c.args.node c.args.depth (Some (type.BitString k.length k.is_extensible k.has_names))
     (λ (B : ℕ → Encoding FaultKind Parts). Outcome cx B c.args.state.now p.new.state c.args.parts.now p.new.parts p.result)
-    (omega (arith, c.if-depth-eq0.false)) (sym c.node_at.ensures ∙ k.is ∙ ap (λ (n : Node). Some n) k.field-0-is) p.ensures.did
+    (omega (arith, c.if-depth-eq0.false)) (sym c.in-Some.ensures ∙ ap (λ (n : Node). Some n) k.is) p.ensures.did
 
-pub decode_node-returns-in-Some-OctetString-clause-did : goal.decoder::decode_node-returns-in-Some-OctetString-clause-did
-decode_node-returns-in-Some-OctetString-clause-did t c =
+pub decode_node-returns-in-OctetString-clause-did : goal.decoder::decode_node-returns-in-OctetString-clause-did
+decode_node-returns-in-OctetString-clause-did t c =
     let cx = c.args.context.now in
-    let k = c.in-Some-OctetString in
+    let k = c.in-OctetString in
     let p = c.decode_octet_string in
     at_node cx c.args.node c.args.depth (Some (type.OctetString k.length k.is_extensible))
     (λ (B : ℕ → Encoding FaultKind Parts). Outcome cx B c.args.state.now p.new.state c.args.parts.now p.new.parts p.result)
-    (omega (arith, c.if-depth-eq0.false)) (sym c.node_at.ensures ∙ k.is ∙ ap (λ (n : Node). Some n) k.field-0-is) p.ensures.did
+    (omega (arith, c.if-depth-eq0.false)) (sym c.in-Some.ensures ∙ ap (λ (n : Node). Some n) k.is) p.ensures.did
 
-pub decode_node-returns-in-Some-Text-clause-did : goal.decoder::decode_node-returns-in-Some-Text-clause-did
-decode_node-returns-in-Some-Text-clause-did t c =
+pub decode_node-returns-in-Text-clause-did : goal.decoder::decode_node-returns-in-Text-clause-did
+decode_node-returns-in-Text-clause-did t c =
     let cx = c.args.context.now in
-    let k = c.in-Some-Text in
+    let k = c.in-Text in
     let p = c.decode_text in
     at_node cx c.args.node c.args.depth (Some (type.Text k.length k.is_extensible k.alphabet k.whole))
     (λ (B : ℕ → Encoding FaultKind Parts). Outcome cx B c.args.state.now p.new.state c.args.parts.now p.new.parts p.result)
-    (omega (arith, c.if-depth-eq0.false)) (sym c.node_at.ensures ∙ k.is ∙ ap (λ (n : Node). Some n) k.field-0-is) p.ensures.did
+    (omega (arith, c.if-depth-eq0.false)) (sym c.in-Some.ensures ∙ ap (λ (n : Node). Some n) k.is) p.ensures.did
 
-pub decode_node-returns-in-Some-ObjectIdentifier-clause-did : goal.decoder::decode_node-returns-in-Some-ObjectIdentifier-clause-did
-decode_node-returns-in-Some-ObjectIdentifier-clause-did t c =
+pub decode_node-returns-in-ObjectIdentifier-clause-did : goal.decoder::decode_node-returns-in-ObjectIdentifier-clause-did
+decode_node-returns-in-ObjectIdentifier-clause-did t c =
     let cx = c.args.context.now in
-    let k = c.in-Some-ObjectIdentifier in
+    let k = c.in-ObjectIdentifier in
     let p = c.decode_object_identifier in
     at_node cx c.args.node c.args.depth (Some type.ObjectIdentifier)
     (λ (B : ℕ → Encoding FaultKind Parts). Outcome cx B c.args.state.now p.new.state c.args.parts.now p.new.parts p.result)
-    (omega (arith, c.if-depth-eq0.false)) (sym c.node_at.ensures ∙ k.is ∙ ap (λ (n : Node). Some n) k.field-0-is) p.ensures.did
+    (omega (arith, c.if-depth-eq0.false)) (sym c.in-Some.ensures ∙ ap (λ (n : Node). Some n) k.is) p.ensures.did
 
-pub decode_node-returns-in-Some-RelativeIdentifier-clause-did : goal.decoder::decode_node-returns-in-Some-RelativeIdentifier-clause-did
-decode_node-returns-in-Some-RelativeIdentifier-clause-did t c =
+pub decode_node-returns-in-RelativeIdentifier-clause-did : goal.decoder::decode_node-returns-in-RelativeIdentifier-clause-did
+decode_node-returns-in-RelativeIdentifier-clause-did t c =
     let cx = c.args.context.now in
-    let k = c.in-Some-RelativeIdentifier in
+    let k = c.in-RelativeIdentifier in
     let p = c.decode_relative_identifier in
     at_node cx c.args.node c.args.depth (Some type.RelativeIdentifier)
     (λ (B : ℕ → Encoding FaultKind Parts). Outcome cx B c.args.state.now p.new.state c.args.parts.now p.new.parts p.result)
-    (omega (arith, c.if-depth-eq0.false)) (sym c.node_at.ensures ∙ k.is ∙ ap (λ (n : Node). Some n) k.field-0-is) p.ensures.did
+    (omega (arith, c.if-depth-eq0.false)) (sym c.in-Some.ensures ∙ ap (λ (n : Node). Some n) k.is) p.ensures.did
 
-pub decode_node-returns-in-Some-Utf8String-clause-did : goal.decoder::decode_node-returns-in-Some-Utf8String-clause-did
-decode_node-returns-in-Some-Utf8String-clause-did t c =
+pub decode_node-returns-in-Utf8String-clause-did : goal.decoder::decode_node-returns-in-Utf8String-clause-did
+decode_node-returns-in-Utf8String-clause-did t c =
     let cx = c.args.context.now in
-    let k = c.in-Some-Utf8String in
+    let k = c.in-Utf8String in
     let p = c.decode_utf8_string in
     at_node cx c.args.node c.args.depth (Some type.Utf8String)
     (λ (B : ℕ → Encoding FaultKind Parts). Outcome cx B c.args.state.now p.new.state c.args.parts.now p.new.parts p.result)
-    (omega (arith, c.if-depth-eq0.false)) (sym c.node_at.ensures ∙ k.is ∙ ap (λ (n : Node). Some n) k.field-0-is) p.ensures.did
+    (omega (arith, c.if-depth-eq0.false)) (sym c.in-Some.ensures ∙ ap (λ (n : Node). Some n) k.is) p.ensures.did
 
-pub decode_node-returns-in-Some-Real-clause-did : goal.decoder::decode_node-returns-in-Some-Real-clause-did
-decode_node-returns-in-Some-Real-clause-did t c =
+pub decode_node-returns-in-Real-clause-did : goal.decoder::decode_node-returns-in-Real-clause-did
+decode_node-returns-in-Real-clause-did t c =
     let cx = c.args.context.now in
-    let k = c.in-Some-Real in
+    let k = c.in-Real in
     let p = c.decode_real in
     at_node cx c.args.node c.args.depth (Some type.Real)
     (λ (B : ℕ → Encoding FaultKind Parts). Outcome cx B c.args.state.now p.new.state c.args.parts.now p.new.parts p.result)
-    (omega (arith, c.if-depth-eq0.false)) (sym c.node_at.ensures ∙ k.is ∙ ap (λ (n : Node). Some n) k.field-0-is) p.ensures.did
+    (omega (arith, c.if-depth-eq0.false)) (sym c.in-Some.ensures ∙ ap (λ (n : Node). Some n) k.is) p.ensures.did
 
-pub decode_node-returns-in-Some-Time-clause-did : goal.decoder::decode_node-returns-in-Some-Time-clause-did
-decode_node-returns-in-Some-Time-clause-did t c =
+pub decode_node-returns-in-Time-clause-did : goal.decoder::decode_node-returns-in-Time-clause-did
+decode_node-returns-in-Time-clause-did t c =
     let cx = c.args.context.now in
-    let k = c.in-Some-Time in
+    let k = c.in-Time in
     let p = c.decode_time in
     at_node cx c.args.node c.args.depth (Some (type.Time k.kind))
     (λ (B : ℕ → Encoding FaultKind Parts). Outcome cx B c.args.state.now p.new.state c.args.parts.now p.new.parts p.result)
-    (omega (arith, c.if-depth-eq0.false)) (sym c.node_at.ensures ∙ k.is ∙ ap (λ (n : Node). Some n) k.field-0-is) p.ensures.did
+    (omega (arith, c.if-depth-eq0.false)) (sym c.in-Some.ensures ∙ ap (λ (n : Node). Some n) k.is) p.ensures.did

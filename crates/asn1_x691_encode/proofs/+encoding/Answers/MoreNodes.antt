@@ -9,14 +9,14 @@ use Rattle.asn1_x691_encode.specs.Encoding.{Outcome, open_in, extensible_sequenc
 use Rattle.asn1_x691_encode.specs.LeafSteps.{at_node}
 use Rattle.asn1_x691_encode.proofs.+encoding.Goals as goal
 
-pub encode_node-returns-in-Some-Open : goal.encoder::encode_node-returns-in-Some-Open
-encode_node-returns-in-Some-Open t c =
+pub encode_node-returns-in-Open : goal.encoder::encode_node-returns-in-Open
+encode_node-returns-in-Open t c =
     let cx = c.args.context.now in
-    let k = c.in-Some-Open in
+    let k = c.in-Open in
     let last = c.encode_open_type in
     at_node cx c.args.node c.args.depth (Some (type.Open k.inner))
     (λ (A : ℕ → TypeEncoding FaultKind). Outcome cx A c.args.octets.now c.args.state.now last.new.octets last.new.state last.result)
-    (omega (arith, c.if-depth-eq0.false)) (sym c.node_at.ensures ∙ k.is ∙ ap (λ (n : Node). Some n) k.field-0-is)
+    (omega (arith, c.if-depth-eq0.false)) (sym c.in-Some.ensures ∙ ap (λ (n : Node). Some n) k.is)
     (λ d r.
     let e : c.args.depth - 1 ≡ d = omega (arith, r) in
     subst
@@ -26,12 +26,12 @@ encode_node-returns-in-Some-Open t c =
 pub encode_node-returns-then-is_extensible : goal.encoder::encode_node-returns-then-is_extensible
 encode_node-returns-then-is_extensible t c =
     let cx = c.args.context.now in
-    let k = c.in-Some-Sequence in
+    let k = c.in-Sequence in
     let last = c.encode_extensible_sequence in
     at_node cx c.args.node c.args.depth (Some (type.Sequence k.root true k.additions))
     (λ (A : ℕ → TypeEncoding FaultKind). Outcome cx A c.args.octets.now c.args.state.now last.new.octets last.new.state last.result)
     (omega (arith, c.if-depth-eq0.false))
-    (sym c.node_at.ensures ∙ k.is ∙ ap (λ (n : Node). Some n) k.field-0-is
+    (sym c.in-Some.ensures ∙ ap (λ (n : Node). Some n) k.is
     ∙ ap (λ (b : Bool). Some (type.Sequence k.root b k.additions)) c.if-is_extensible.true)
     (λ d r.
     let e : c.args.depth - 1 ≡ d = omega (arith, r) in

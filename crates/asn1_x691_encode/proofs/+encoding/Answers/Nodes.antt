@@ -8,100 +8,100 @@ use Rattle.asn1_x691_encode.specs.Encoding.{extensible_choice_in, Outcome, choic
 use Rattle.asn1_x691_encode.specs.LeafSteps.{at_node}
 use Rattle.asn1_x691_encode.proofs.+encoding.Goals as goal
 
-pub encode_node-returns-in-Some-Null : goal.encoder::encode_node-returns-in-Some-Null
-encode_node-returns-in-Some-Null t c =
+pub encode_node-returns-in-Null : goal.encoder::encode_node-returns-in-Null
+encode_node-returns-in-Null t c =
     let cx = c.args.context.now in
-    let k = c.in-Some-Null in
+    let k = c.in-Null in
     at_node cx c.args.node c.args.depth (Some (type.Null))
     (λ (A : ℕ → TypeEncoding FaultKind). Outcome cx A c.args.octets.now c.args.state.now c.encode_null.new.octets c.encode_null.new.state c.encode_null.result)
-    (omega (arith, c.if-depth-eq0.false)) (sym c.node_at.ensures ∙ c.in-Some-Null.is ∙ ap (λ (n : Node). Some n) c.in-Some-Null.field-0-is)
+    (omega (arith, c.if-depth-eq0.false)) (sym c.in-Some.ensures ∙ ap (λ (n : Node). Some n) c.in-Null.is)
     (λ d r. c.encode_null.ensures)
 
-pub encode_node-returns-in-Some-Boolean : goal.encoder::encode_node-returns-in-Some-Boolean
-encode_node-returns-in-Some-Boolean t c =
+pub encode_node-returns-in-Boolean : goal.encoder::encode_node-returns-in-Boolean
+encode_node-returns-in-Boolean t c =
     let cx = c.args.context.now in
-    let k = c.in-Some-Boolean in
+    let k = c.in-Boolean in
     at_node cx c.args.node c.args.depth (Some (type.Boolean))
     (λ (A : ℕ → TypeEncoding FaultKind). Outcome cx A c.args.octets.now c.args.state.now c.encode_boolean.new.octets c.encode_boolean.new.state c.encode_boolean.result)
-    (omega (arith, c.if-depth-eq0.false)) (sym c.node_at.ensures ∙ c.in-Some-Boolean.is ∙ ap (λ (n : Node). Some n) c.in-Some-Boolean.field-0-is)
+    (omega (arith, c.if-depth-eq0.false)) (sym c.in-Some.ensures ∙ ap (λ (n : Node). Some n) c.in-Boolean.is)
     (λ d r. c.encode_boolean.ensures)
 
-pub encode_node-returns-in-Some-IntegerBetween : goal.encoder::encode_node-returns-in-Some-IntegerBetween
-encode_node-returns-in-Some-IntegerBetween t c =
+pub encode_node-returns-in-IntegerBetween : goal.encoder::encode_node-returns-in-IntegerBetween
+encode_node-returns-in-IntegerBetween t c =
     let cx = c.args.context.now in
-    let k = c.in-Some-IntegerBetween in
+    let k = c.in-IntegerBetween in
     at_node cx c.args.node c.args.depth (Some (type.IntegerBetween k.bounds k.is_extensible))
     (λ (A : ℕ → TypeEncoding FaultKind). Outcome cx A c.args.octets.now c.args.state.now c.encode_between.new.octets c.encode_between.new.state c.encode_between.result)
-    (omega (arith, c.if-depth-eq0.false)) (sym c.node_at.ensures ∙ c.in-Some-IntegerBetween.is ∙ ap (λ (n : Node). Some n) c.in-Some-IntegerBetween.field-0-is)
+    (omega (arith, c.if-depth-eq0.false)) (sym c.in-Some.ensures ∙ ap (λ (n : Node). Some n) c.in-IntegerBetween.is)
     (λ d r. c.encode_between.ensures)
 
-pub encode_node-returns-in-Some-IntegerAtLeast : goal.encoder::encode_node-returns-in-Some-IntegerAtLeast
-encode_node-returns-in-Some-IntegerAtLeast t c =
+pub encode_node-returns-in-IntegerAtLeast : goal.encoder::encode_node-returns-in-IntegerAtLeast
+encode_node-returns-in-IntegerAtLeast t c =
     let cx = c.args.context.now in
-    let k = c.in-Some-IntegerAtLeast in
+    let k = c.in-IntegerAtLeast in
     at_node cx c.args.node c.args.depth (Some (type.IntegerAtLeast k.bound k.is_extensible))
     (λ (A : ℕ → TypeEncoding FaultKind). Outcome cx A c.args.octets.now c.args.state.now c.encode_at_least.new.octets c.encode_at_least.new.state c.encode_at_least.result)
-    (omega (arith, c.if-depth-eq0.false)) (sym c.node_at.ensures ∙ c.in-Some-IntegerAtLeast.is ∙ ap (λ (n : Node). Some n) c.in-Some-IntegerAtLeast.field-0-is)
+    (omega (arith, c.if-depth-eq0.false)) (sym c.in-Some.ensures ∙ ap (λ (n : Node). Some n) c.in-IntegerAtLeast.is)
     (λ d r. c.encode_at_least.ensures)
 
-pub encode_node-returns-in-Some-Integer : goal.encoder::encode_node-returns-in-Some-Integer
-encode_node-returns-in-Some-Integer t c =
+pub encode_node-returns-in-Integer : goal.encoder::encode_node-returns-in-Integer
+encode_node-returns-in-Integer t c =
     let cx = c.args.context.now in
-    let k = c.in-Some-Integer in
+    let k = c.in-Integer in
     at_node cx c.args.node c.args.depth (Some (type.Integer))
     (λ (A : ℕ → TypeEncoding FaultKind). Outcome cx A c.args.octets.now c.args.state.now c.encode_integer.new.octets c.encode_integer.new.state c.encode_integer.result)
-    (omega (arith, c.if-depth-eq0.false)) (sym c.node_at.ensures ∙ c.in-Some-Integer.is ∙ ap (λ (n : Node). Some n) c.in-Some-Integer.field-0-is)
+    (omega (arith, c.if-depth-eq0.false)) (sym c.in-Some.ensures ∙ ap (λ (n : Node). Some n) c.in-Integer.is)
     (λ d r. c.encode_integer.ensures)
 
-pub encode_node-returns-in-Some-Enumerated : goal.encoder::encode_node-returns-in-Some-Enumerated
-encode_node-returns-in-Some-Enumerated t c =
+pub encode_node-returns-in-Enumerated : goal.encoder::encode_node-returns-in-Enumerated
+encode_node-returns-in-Enumerated t c =
     let cx = c.args.context.now in
-    let k = c.in-Some-Enumerated in
+    let k = c.in-Enumerated in
     at_node cx c.args.node c.args.depth (Some (type.Enumerated k.last k.is_extensible k.additions))
     (λ (A : ℕ → TypeEncoding FaultKind). Outcome cx A c.args.octets.now c.args.state.now c.encode_enumerated.new.octets c.encode_enumerated.new.state c.encode_enumerated.result)
-    (omega (arith, c.if-depth-eq0.false)) (sym c.node_at.ensures ∙ c.in-Some-Enumerated.is ∙ ap (λ (n : Node). Some n) c.in-Some-Enumerated.field-0-is)
+    (omega (arith, c.if-depth-eq0.false)) (sym c.in-Some.ensures ∙ ap (λ (n : Node). Some n) c.in-Enumerated.is)
     (λ d r. c.encode_enumerated.ensures)
 
-pub encode_node-returns-in-Some-BitString : goal.encoder::encode_node-returns-in-Some-BitString
-encode_node-returns-in-Some-BitString t c =
+pub encode_node-returns-in-BitString : goal.encoder::encode_node-returns-in-BitString
+encode_node-returns-in-BitString t c =
     let cx = c.args.context.now in
-    let k = c.in-Some-BitString in
+    let k = c.in-BitString in
     at_node cx c.args.node c.args.depth (Some (type.BitString k.length k.is_extensible k.has_names))
     (λ (A : ℕ → TypeEncoding FaultKind). Outcome cx A c.args.octets.now c.args.state.now c.encode_bits.new.octets c.encode_bits.new.state c.encode_bits.result)
-    (omega (arith, c.if-depth-eq0.false)) (sym c.node_at.ensures ∙ c.in-Some-BitString.is ∙ ap (λ (n : Node). Some n) c.in-Some-BitString.field-0-is)
+    (omega (arith, c.if-depth-eq0.false)) (sym c.in-Some.ensures ∙ ap (λ (n : Node). Some n) c.in-BitString.is)
     (λ d r. c.encode_bits.ensures)
 
-pub encode_node-returns-in-Some-OctetString : goal.encoder::encode_node-returns-in-Some-OctetString
-encode_node-returns-in-Some-OctetString t c =
+pub encode_node-returns-in-OctetString : goal.encoder::encode_node-returns-in-OctetString
+encode_node-returns-in-OctetString t c =
     let cx = c.args.context.now in
-    let k = c.in-Some-OctetString in
+    let k = c.in-OctetString in
     at_node cx c.args.node c.args.depth (Some (type.OctetString k.length k.is_extensible))
     (λ (A : ℕ → TypeEncoding FaultKind). Outcome cx A c.args.octets.now c.args.state.now c.encode_octets.new.octets c.encode_octets.new.state c.encode_octets.result)
-    (omega (arith, c.if-depth-eq0.false)) (sym c.node_at.ensures ∙ c.in-Some-OctetString.is ∙ ap (λ (n : Node). Some n) c.in-Some-OctetString.field-0-is)
+    (omega (arith, c.if-depth-eq0.false)) (sym c.in-Some.ensures ∙ ap (λ (n : Node). Some n) c.in-OctetString.is)
     (λ d r. c.encode_octets.ensures)
 
-pub encode_node-returns-in-Some-SequenceOf : goal.encoder::encode_node-returns-in-Some-SequenceOf
-encode_node-returns-in-Some-SequenceOf t c =
+pub encode_node-returns-in-SequenceOf : goal.encoder::encode_node-returns-in-SequenceOf
+encode_node-returns-in-SequenceOf t c =
     let cx = c.args.context.now in
-    let k = c.in-Some-SequenceOf in
+    let k = c.in-SequenceOf in
     let last = c.encode_list_by in
     at_node cx c.args.node c.args.depth (Some (type.SequenceOf k.length k.is_extensible k.item))
     (λ (A : ℕ → TypeEncoding FaultKind). Outcome cx A c.args.octets.now c.args.state.now last.new.octets last.new.state last.result)
-    (omega (arith, c.if-depth-eq0.false)) (sym c.node_at.ensures ∙ c.in-Some-SequenceOf.is ∙ ap (λ (n : Node). Some n) c.in-Some-SequenceOf.field-0-is)
+    (omega (arith, c.if-depth-eq0.false)) (sym c.in-Some.ensures ∙ ap (λ (n : Node). Some n) c.in-SequenceOf.is)
     (λ d r.
     let e : c.args.depth - 1 ≡ d = omega (arith, r) in
     subst
     (λ (n : ℕ). Outcome cx (list_by cx n c.args.node k.is_extensible false k.length k.item) c.args.octets.now c.args.state.now last.new.octets
     last.new.state last.result) e last.ensures)
 
-pub encode_node-returns-in-Some-SetOf : goal.encoder::encode_node-returns-in-Some-SetOf
-encode_node-returns-in-Some-SetOf t c =
+pub encode_node-returns-in-SetOf : goal.encoder::encode_node-returns-in-SetOf
+encode_node-returns-in-SetOf t c =
     let cx = c.args.context.now in
-    let k = c.in-Some-SetOf in
-    let last = c.encode_list_by-in-Some-SetOf in
+    let k = c.in-SetOf in
+    let last = c.encode_list_by-in-SetOf in
     at_node cx c.args.node c.args.depth (Some (type.SetOf k.length k.is_extensible k.item))
     (λ (A : ℕ → TypeEncoding FaultKind). Outcome cx A c.args.octets.now c.args.state.now last.new.octets last.new.state last.result)
-    (omega (arith, c.if-depth-eq0.false)) (sym c.node_at.ensures ∙ c.in-Some-SetOf.is ∙ ap (λ (n : Node). Some n) c.in-Some-SetOf.field-0-is)
+    (omega (arith, c.if-depth-eq0.false)) (sym c.in-Some.ensures ∙ ap (λ (n : Node). Some n) c.in-SetOf.is)
     (λ d r.
     let e : c.args.depth - 1 ≡ d = omega (arith, r) in
     subst
@@ -111,12 +111,12 @@ encode_node-returns-in-Some-SetOf t c =
 pub encode_node-returns-else-is_extensible-2 : goal.encoder::encode_node-returns-else-is_extensible-2
 encode_node-returns-else-is_extensible-2 t c =
     let cx = c.args.context.now in
-    let k = c.in-Some-Choice in
+    let k = c.in-Choice in
     at_node cx c.args.node c.args.depth (Some (type.Choice k.alternatives false k.additions))
     (λ (A : ℕ → TypeEncoding FaultKind). Outcome cx A c.args.octets.now c.args.state.now c.encode_choice.new.octets c.encode_choice.new.state
     c.encode_choice.result)
     (omega (arith, c.if-depth-eq0.false))
-    (sym c.node_at.ensures ∙ c.in-Some-Choice.is ∙ ap (λ (n : Node). Some n) c.in-Some-Choice.field-0-is
+    (sym c.in-Some.ensures ∙ ap (λ (n : Node). Some n) c.in-Choice.is
     ∙ ap (λ (b : Bool). Some (type.Choice k.alternatives b k.additions)) c.if-is_extensible-2.false)
     (λ d r.
     let e : c.args.depth - 1 ≡ d = omega (arith, r) in
@@ -127,12 +127,12 @@ encode_node-returns-else-is_extensible-2 t c =
 pub encode_node-returns-then-is_extensible-2 : goal.encoder::encode_node-returns-then-is_extensible-2
 encode_node-returns-then-is_extensible-2 t c =
     let cx = c.args.context.now in
-    let k = c.in-Some-Choice in
+    let k = c.in-Choice in
     let last = c.encode_extensible_choice in
     at_node cx c.args.node c.args.depth (Some (type.Choice k.alternatives true k.additions))
     (λ (A : ℕ → TypeEncoding FaultKind). Outcome cx A c.args.octets.now c.args.state.now last.new.octets last.new.state last.result)
     (omega (arith, c.if-depth-eq0.false))
-    (sym c.node_at.ensures ∙ c.in-Some-Choice.is ∙ ap (λ (n : Node). Some n) c.in-Some-Choice.field-0-is
+    (sym c.in-Some.ensures ∙ ap (λ (n : Node). Some n) c.in-Choice.is
     ∙ ap (λ (b : Bool). Some (type.Choice k.alternatives b k.additions)) c.if-is_extensible-2.true)
     (λ d r.
     let e : c.args.depth - 1 ≡ d = omega (arith, r) in
@@ -143,12 +143,12 @@ encode_node-returns-then-is_extensible-2 t c =
 pub encode_node-returns-else-is_extensible : goal.encoder::encode_node-returns-else-is_extensible
 encode_node-returns-else-is_extensible t c =
     let cx = c.args.context.now in
-    let k = c.in-Some-Sequence in
+    let k = c.in-Sequence in
     let last = c.encode_sequence in
     at_node cx c.args.node c.args.depth (Some (type.Sequence k.root false k.additions))
     (λ (A : ℕ → TypeEncoding FaultKind). Outcome cx A c.args.octets.now c.args.state.now last.new.octets last.new.state last.result)
     (omega (arith, c.if-depth-eq0.false))
-    (sym c.node_at.ensures ∙ c.in-Some-Sequence.is ∙ ap (λ (n : Node). Some n) c.in-Some-Sequence.field-0-is
+    (sym c.in-Some.ensures ∙ ap (λ (n : Node). Some n) c.in-Sequence.is
     ∙ ap (λ (b : Bool). Some (type.Sequence k.root b k.additions)) c.if-is_extensible.false)
     (λ d r.
     let e : c.args.depth - 1 ≡ d = omega (arith, r) in

@@ -7,9 +7,9 @@ ghost use Rattle.asn1_schema.specs.PiecesOfParts.{bits_of};
 use asn1_bits::{BitStr, aligned_octets};
 use asn1_schema::Span;
 
-/// Returns the octets that bits of a message are, where these begin and end at octets of it.
+/// Returns the octets that bits of a message are, if these begin and end at octets of it.
 #[tactic(auto, unfolding(asn1_bits::specs::View::list_of))]
-pub(crate) fn whole_octets(octets: &[u8], span: Span) -> Option<&[u8]>
+pub fn whole_octets(octets: &[u8], span: Span) -> Option<&[u8]>
     ensures bits { IfSome result (λ own. bits own.now ≡ bits_of (bits octets.now) span) }
     ensures octets { IfSome result (λ own. All (λ octet. octet < 256) own.now) }
 {
