@@ -4,7 +4,6 @@ ghost use Rattle.std.specs.Prelude.{◌≡◌, ◌+◌, ◌-◌, ◌*◌, ◌/�
 ghost use Rattle.std.specs.Int.{div_ceil};
 ghost use Rattle.asn1_bits.specs.Bits.{bits, digits, ored, IsZeroFrom};
 
-use crate::single_bits::from_octet;
 use crate::target::Target;
 use crate::turns::Turns;
 
@@ -16,7 +15,8 @@ pub(crate) fn eight(octets: &[u8], first: usize) -> [u8; 8]
 {
     // The front has eight octets, so the second arm is never taken, and the compiler drops the
     // test.
-    let (front, _) = from_octet(octets, first).split_at(8);
+    let (_, rest) = octets.split_at(first);
+    let (front, _) = rest.split_at(8);
     match front.first_chunk::<8>() {
         Some(chunk) => *chunk,
         None => [0; 8],

@@ -145,20 +145,6 @@ pub(super) fn add_octets(dst: &mut [u8], position: usize, word: u64)
     store_octets(dst, first, (begun + turned).to_le_bytes());
 }
 
-/// Writes a number of `width` digits over zeros from bit `position` on. They lie within eight
-/// octets of the slice: one octet is loaded and eight are stored.
-#[inline(always)]
-pub(super) fn put_word(dst: &mut [u8], position: usize, word: u64, width: usize)
-    requires some { 0 < width }
-    requires width { position % 8 + width ≤ 64 }
-    requires below { word < 2 ^ width }
-    requires eight { position / 8 + 8 ≤ length dst.old }
-    requires zeros { IsZeroFrom position (bits dst.old) }
-    ensures { bits dst.new ≡ ored (bits dst.old) position (digits word width) }
-{
-    add_octets(dst, position, word << (64 - width - position % 8));
-}
-
 /// Writes a number over zeros from bit `position` on. Its digits lie within sixteen octets of the
 /// slice.
 #[inline(always)]
