@@ -4,8 +4,8 @@ ghost use Rattle.std.specs.Prelude.{◌≡◌, ◌+◌, ◌-◌, ◌*◌, ◌++�
 ghost use Rattle.std.specs.Int.{to_le_bytes, w64};
 ghost use Rattle.asn1_bits.specs.Bits.{bits, digits, ored, overwritten, IsZeroFrom};
 
-use crate::overwrite::clear_bits;
-use crate::window::{eight, load};
+use crate::clear::clear_bits;
+use crate::reads::{eight, load};
 
 /// Eight octets from one of them on, as a word whose lowest octet is the first of them.
 #[inline(always)]
