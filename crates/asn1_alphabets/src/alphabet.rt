@@ -1,7 +1,6 @@
 //! The alphabets that characters are written in (X.691 30.5).
 ghost use Rattle.std.specs.Prelude.{◌≡◌, ◌≢◌, ◌≤◌, ◌+◌, ◌<◌, ◌^◌, ℕ, true, false, AllPairs, length, slice_get, is_some, Some, OnSome, OnOk, MatchBool, MatchOption};
 ghost use Rattle.std.specs.Option.{ForSome, option_copied};
-ghost use Rattle.std.specs.List.Sorted.{IsNonDecreasing};
 ghost use Rattle.asn1_characters.specs.Sets.{has_character, largest};
 ghost use Rattle.asn1_characters.specs.Widths.{ceil_log2};
 ghost use Rattle.asn1_alphabets.specs.Alphabet.{is_indexed, alphabet_on, effective, IsCode, missing_error, uncoded_error, Encodes, Decodes, IsLongAscending};
@@ -10,7 +9,7 @@ ghost use Rattle.asn1_alphabets.specs.AlphabetInMemory.{some_if, IsKnown};
 use crate::effective_set::{EffectiveSet, split_words};
 use crate::permitted_set::{largest_of, repeats_in};
 use crate::run::Run;
-use crate::search::{CountedSlice, Entries, find_ascending, find_one_by_one};
+use crate::search::place_by_looks;
 use asn1_bits::Turns;
 use asn1_characters::widths::{codes_of, width_for};
 use asn1_characters::{
@@ -153,8 +152,12 @@ impl<'s> CharacterAlphabet<'s> {
         self.encode_counted(character, &mut Turns::new())
     }
 
-    /// Encodes as `encode`, with its errors, and counts probes: at most w + 1 in an ascending set
-    /// of more than 64 characters, where w is the least width in bits in which they have codes.
+    /// Returns a code of the character, and counts probes: at most w + 1 in an ascending set of
+    /// more than 64 characters, where w is the least width in bits in which they have codes.
+    ///
+    /// # Errors
+    ///
+    /// Returns the errors of `encode`.
     #[inline(always)]
     pub fn encode_counted(
         &self,
@@ -351,49 +354,4 @@ impl<'s> CharacterAlphabet<'s> {
             None => self.name.character_at(place),
         }
     }
-}
-
-/// A place of the character: by halves where the list is long and ascending, otherwise one by one.
-/// It sees the list through looks alone.
-#[inline(always)]
-fn place_among<L: Entries>(
-    entries: &mut L,
-    ascending: bool,
-    character: u32,
-    probes: &mut Turns,
-) -> Option<usize>
-    requires ascends { ascending ≡ true → IsNonDecreasing (L.list entries.old) }
-    requires not_ascending { ascending ≡ false → ¬ (IsNonDecreasing (L.list entries.old)) }
-    ensures place { MatchOption result (has_character (L.list entries.old) character ≡ false)
-        (λ k. slice_get (L.list entries.old) k ≡ Some character) }
-    ensures each_look_counts { probes.new.count + L.looks entries.old
-        ≡ probes.old.count + L.looks entries.new }
-    ensures counts { probes.old.count ≤ probes.new.count }
-    ensures cost { let list = L.list entries.old in
-        IsLongAscending list → probes.new.count ≤ probes.old.count + (ceil_log2 (length list) + 1) }
-    ensures looked { OnSome result (probes.old.count + 1 ≤ probes.new.count) }
-{
-    if ascending && entries.count() > 64 {
-        find_ascending(entries, character, probes)
-    } else {
-        find_one_by_one(entries, character, probes)
-    }
-}
-
-/// A place of the character in a permitted set.
-#[inline(never)]
-fn place_by_looks(set: &[u32], ascending: bool, character: u32, probes: &mut Turns) -> Option<u32>
-    requires few { length set.now ≤ 2 ^ 32 }
-    requires ascends { ascending ≡ true → IsNonDecreasing set.now }
-    requires not_ascending { ascending ≡ false → ¬ (IsNonDecreasing set.now) }
-    ensures place { MatchOption result (has_character set.now character ≡ false)
-        (λ k. slice_get set.now k ≡ Some character) }
-    ensures counts { probes.old.count ≤ probes.new.count }
-    ensures cost { IsLongAscending set.now →
-        probes.new.count ≤ probes.old.count + (ceil_log2 (length set.now) + 1) }
-    ensures looked { IsLongAscending set.now →
-        OnSome result (probes.old.count + 1 ≤ probes.new.count) }
-{
-    let place = place_among(&mut CountedSlice::at(set), ascending, character, probes)?;
-    Some(place as u32)
 }

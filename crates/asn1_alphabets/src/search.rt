@@ -1,8 +1,9 @@
-//! Search by halves in ascending lists, in which no entry is below the one before it.
-ghost use Rattle.std.specs.Prelude.{◌≡◌, ◌≤◌, ◌+◌, ◌<◌, ℕ, false, List, length, slice_get, slice_index, Some, OnSome, MatchOption};
+//! Search in lists of characters: by halves in long ascending lists, otherwise one by one.
+ghost use Rattle.std.specs.Prelude.{◌≡◌, ◌≤◌, ◌+◌, ◌<◌, ◌^◌, ℕ, true, false, List, length, slice_get, slice_index, Some, OnSome, MatchOption};
 ghost use Rattle.std.specs.List.Sorted.{IsNonDecreasing};
 ghost use Rattle.asn1_characters.specs.Sets.{has_character};
 ghost use Rattle.asn1_characters.specs.Widths.{ceil_log2};
+ghost use Rattle.asn1_alphabets.specs.Alphabet.{IsLongAscending};
 
 use asn1_bits::Turns;
 use std::fmt;
@@ -134,4 +135,54 @@ pub fn find_ascending<L: Entries>(
         }
     }
     None
+}
+
+/// A place of the character: by halves where the list is long and ascending, otherwise one by one.
+/// It sees the list through looks alone.
+#[inline(always)]
+fn place_among<L: Entries>(
+    entries: &mut L,
+    ascending: bool,
+    character: u32,
+    probes: &mut Turns,
+) -> Option<usize>
+    requires ascends { ascending ≡ true → IsNonDecreasing (L.list entries.old) }
+    requires not_ascending { ascending ≡ false → ¬ (IsNonDecreasing (L.list entries.old)) }
+    ensures place { MatchOption result (has_character (L.list entries.old) character ≡ false)
+        (λ k. slice_get (L.list entries.old) k ≡ Some character) }
+    ensures each_look_counts { probes.new.count + L.looks entries.old
+        ≡ probes.old.count + L.looks entries.new }
+    ensures counts { probes.old.count ≤ probes.new.count }
+    ensures cost { let list = L.list entries.old in
+        IsLongAscending list → probes.new.count ≤ probes.old.count + (ceil_log2 (length list) + 1) }
+    ensures looked { OnSome result (probes.old.count + 1 ≤ probes.new.count) }
+{
+    if ascending && entries.count() > 64 {
+        find_ascending(entries, character, probes)
+    } else {
+        find_one_by_one(entries, character, probes)
+    }
+}
+
+/// A place of the character in a permitted set.
+#[inline(never)]
+pub(crate) fn place_by_looks(
+    set: &[u32],
+    ascending: bool,
+    character: u32,
+    probes: &mut Turns,
+) -> Option<u32>
+    requires few { length set.now ≤ 2 ^ 32 }
+    requires ascends { ascending ≡ true → IsNonDecreasing set.now }
+    requires not_ascending { ascending ≡ false → ¬ (IsNonDecreasing set.now) }
+    ensures place { MatchOption result (has_character set.now character ≡ false)
+        (λ k. slice_get set.now k ≡ Some character) }
+    ensures counts { probes.old.count ≤ probes.new.count }
+    ensures cost { IsLongAscending set.now →
+        probes.new.count ≤ probes.old.count + (ceil_log2 (length set.now) + 1) }
+    ensures looked { IsLongAscending set.now →
+        OnSome result (probes.old.count + 1 ≤ probes.new.count) }
+{
+    let place = place_among(&mut CountedSlice::at(set), ascending, character, probes)?;
+    Some(place as u32)
 }

@@ -14,10 +14,10 @@ ghost use Rattle.asn1_bits.specs.View.{IsAligned};
 
 use crate::bit_str::BitStr;
 use crate::places::{or_aligned, place_word};
+use crate::reads::eight;
 use crate::single_bits::from_octet;
 use crate::target::Target;
 use crate::turns::Turns;
-use crate::window::eight;
 use std::alloc::AllocError;
 
 /// ORs the first `count` bits of `src` into `dst` from bit `position` on. Every other bit is

@@ -24,6 +24,7 @@ mod bit_reader;
 mod bit_str;
 mod bit_string;
 mod buffer_target;
+mod clear;
 mod fixed_bit_string;
 mod kernels;
 mod octets;

@@ -8,7 +8,7 @@ ghost use Rattle.asn1_bits.specs.Bits.{bits, digits, ored, overwritten, IsZeroFr
 
 use crate::turns::Turns;
 use stores::{
-    or_eight, or_front, or_octets, or_short, or_upper, or_word, put_pair, put_word, set_word,
+    add_octets, or_eight, or_front, or_octets, or_short, or_upper, or_word, put_pair, set_word,
     store_octets,
 };
 
@@ -185,7 +185,7 @@ impl<'a> Target<'a> {
         ensures placed { self.new.placed.count ≡ self.old.placed.count + 1 }
         ensures turn { turns.new.count ≡ turns.old.count + 1 }
     {
-        put_word(self.octets, position, word, width);
+        add_octets(self.octets, position, word << (64 - width - position % 8));
         self.placed.tick();
         turns.tick();
     }

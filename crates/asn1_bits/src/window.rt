@@ -1,85 +1,12 @@
-//! Words of bits, at any place of octets: read from a slice, and placed in a target.
+//! Words of bits that are placed in a target, at any place of its octets.
 
-ghost use Rattle.std.specs.Prelude.{◌≡◌, ◌+◌, ◌-◌, ◌*◌, ◌/◌, ◌%◌, ◌^◌, ◌<◌, ◌≤◌, ◌++◌, length, take, drop};
+ghost use Rattle.std.specs.Prelude.{◌≡◌, ◌+◌, ◌-◌, ◌*◌, ◌/◌, ◌%◌, ◌^◌, ◌<◌, ◌≤◌, length, take, drop};
 ghost use Rattle.std.specs.Int.{div_ceil};
 ghost use Rattle.asn1_bits.specs.Bits.{bits, digits, ored, IsZeroFrom};
 
-use crate::single_bits::from_octet;
+use crate::reads::load;
 use crate::target::Target;
 use crate::turns::Turns;
-
-/// Eight octets from one of them on.
-#[inline(always)]
-pub(crate) fn eight(octets: &[u8], first: usize) -> [u8; 8]
-    requires { first + 8 ≤ length octets.now }
-    ensures { result ≡ take 8 (drop first octets.now) }
-{
-    // The front has eight octets, so the second arm is never taken, and the compiler drops the
-    // test.
-    let (front, _) = from_octet(octets, first).split_at(8);
-    match front.first_chunk::<8>() {
-        Some(chunk) => *chunk,
-        None => [0; 8],
-    }
-}
-
-/// The word of the eight octets from one of them on.
-#[inline(always)]
-pub(crate) fn load(octets: &[u8], first: usize) -> u64
-    requires { first + 8 ≤ length octets.now }
-    ensures { digits result 64 ≡ take 64 (drop (8 * first) (bits octets.now)) }
-{
-    u64::from_be_bytes(eight(octets, first))
-}
-
-/// The word of the 64 bits from bit `shift` of an octet on.
-pub(crate) fn whole_word(octets: &[u8], first: usize, shift: usize) -> u64
-    requires shift { shift < 8 }
-    requires within { 8 * first + shift + 64 ≤ 8 * length octets.now }
-    ensures { digits result 64 ≡ take 64 (drop (8 * first + shift) (bits octets.now)) }
-{
-    if shift == 0 {
-        load(octets, first)
-    } else {
-        word_of_nine(octets, first, shift)
-    }
-}
-
-/// The 64 digits from digit `shift` on of two words, one after the other.
-#[inline(always)]
-fn digits_from(high: u64, low: u64, shift: usize) -> u64
-    requires { shift < 8 }
-    ensures { digits result 64 ≡ take 64 (drop shift (digits high 64 ++ digits low 64)) }
-{
-    let both = (u128::from(high) << 64) | u128::from(low);
-    // The remainder tells the compiler that the shift is below 64. It costs no instruction: a
-    // processor that shifts two words together takes it by itself.
-    ((both << (shift % 64)) >> 64) as u64
-}
-
-/// The word of the 64 bits from bit `shift` of the first of nine octets on, with no branch on the
-/// shift.
-#[inline(always)]
-pub(crate) fn word_of_nine(octets: &[u8], first: usize, shift: usize) -> u64
-    requires shift { shift < 8 }
-    requires nine { first + 9 ≤ length octets.now }
-    ensures { digits result 64 ≡ take 64 (drop (8 * first + shift) (bits octets.now)) }
-{
-    let ninth = u64::from(octets[first + 8]) << 56;
-    digits_from(load(octets, first), ninth, shift)
-}
-
-/// The 128 bits from bit `shift` of the first of seventeen octets on, as a number's digits.
-#[inline(always)]
-pub(crate) fn wide_of_seventeen(octets: &[u8], first: usize, shift: usize) -> u128
-    requires shift { shift < 8 }
-    requires seventeen { first + 17 ≤ length octets.now }
-    ensures { digits result 128 ≡ take 128 (drop (8 * first + shift) (bits octets.now)) }
-{
-    let high = digits_from(load(octets, first), load(octets, first + 8), shift);
-    let low = word_of_nine(octets, first + 8, shift);
-    (u128::from(high) << 64) | u128::from(low)
-}
 
 /// The number of the lowest `width` digits of the word.
 #[inline(always)]

@@ -1,7 +1,28 @@
-//! Whole numbers made of native ones. None of these allocates.
-ghost use Rattle.std.specs.Prelude.{◌≡◌, pos};
+//! Whole numbers made of native ones. Only a number beyond `i128::MAX` allocates.
+ghost use Rattle.std.specs.Prelude.{◌≡◌, ◌≤◌, ◌^◌, pos, IfOk, OnErr};
 
 use crate::integer::Integer;
+use std::alloc::{AllocError, Global};
+
+impl Integer {
+    /// Returns the number as an `Integer`.
+    ///
+    /// # Errors
+    ///
+    /// Returns `AllocError` if out of memory, never for a number up to `i128::MAX`.
+    pub fn from_u128(alloc: Global, number: u128) -> Result<Integer, AllocError>
+        ensures value { IfOk result (λ n. n ≡ pos number) }
+        ensures memory { OnErr result (2 ^ 127 ≤ number) }
+    {
+        if let Ok(inline) = i128::try_from(number) {
+            return Ok(Integer::inline(inline));
+        }
+        let Ok(integer) = Integer::from_unsigned_octets(alloc, &number.to_be_bytes()) else {
+            return Err(AllocError);
+        };
+        Ok(integer)
+    }
+}
 
 impl From<i128> for Integer {
     ghost from_gives = { λ n number. number ≡ n };

@@ -71,7 +71,7 @@ impl Integer {
         ensures { result ≡ number }
     {
         let (high, low) = words_of_i128(number);
-        Integer::spelled(leading_octets_of(number), high, low)
+        Integer::from_words(leading_octets_of(number), high, low)
     }
 
     /// A number within `i64`: it takes the work of one word.
@@ -79,11 +79,11 @@ impl Integer {
         ensures { result ≡ number }
     {
         let (high, low) = sign_extended(number);
-        Integer::spelled(8 + spare_of_eight(number), high, low)
+        Integer::from_words(8 + spare_of_eight(number), high, low)
     }
 
     /// The number of two words, whose shortest octets begin at a place of its sixteen.
-    fn spelled(start: usize, high: u64, low: u64) -> Integer
+    fn from_words(start: usize, high: u64, low: u64) -> Integer
         requires { let number = cast_signed w128 (high * 2 ^ 64 + low) in
             start + length (shortest_octets number) ≡ 16 }
         ensures { result ≡ cast_signed w128 (high * 2 ^ 64 + low) }
@@ -104,10 +104,14 @@ impl Integer {
         ensures { result ≡ signed octets.now }
     {
         let (high, low) = words_of_octets(octets);
-        Integer::spelled(leading_octets_among(octets), high, low)
+        Integer::from_words(leading_octets_among(octets), high, low)
     }
 
-    /// Copies the number. Returns an error if out of memory, never for a number within `i128`.
+    /// Copies the number.
+    ///
+    /// # Errors
+    ///
+    /// Returns `AllocError` if out of memory, never for a number within `i128`.
     pub fn clone(&self) -> Result<Integer, AllocError>
         ensures value { IfOk result (λ n. n ≡ self.now) }
         ensures memory { OnErr result (¬ (FitsI128 self.now)) }
@@ -128,20 +132,6 @@ impl Integer {
                 })
             }
         }
-    }
-
-    /// Returns the number as an `Integer`, or an error if out of memory, never up to `i128::MAX`.
-    pub fn from_u128(alloc: Global, number: u128) -> Result<Integer, AllocError>
-        ensures value { IfOk result (λ n. n ≡ pos number) }
-        ensures memory { OnErr result (2 ^ 127 ≤ number) }
-    {
-        if let Ok(inline) = i128::try_from(number) {
-            return Ok(Integer::inline(inline));
-        }
-        let Ok(integer) = Integer::from_unsigned_octets(alloc, &number.to_be_bytes()) else {
-            return Err(AllocError);
-        };
-        Ok(integer)
     }
 
     /// Returns the two's complement value of the octets, at any length (X.690 8.3.3).

@@ -32,23 +32,10 @@ impl<'a> BitStr<'a> {
         ensures front_list { bits_of result.0 ≡ take at (bits_of self.now) }
         ensures back_list { bits_of result.1 ≡ drop at (bits_of self.now) }
     {
-        if at < 256 {
-            self.split_below_256(at)
-        } else {
-            self.split_at(at)
+        if at >= 256 {
+            return self.split_at(at);
         }
-    }
-
-    /// `split_at` for fewer than 256 bits: with so few no sum of places exceeds `usize`.
-    #[inline(always)]
-    fn split_below_256(&self, at: usize) -> (BitStr<'a>, BitStr<'a>)
-        requires near { at < 256 }
-        requires within { at ≤ (view_of self.now).len }
-        ensures front { view_of result.0 ≡ part (view_of self.now) 0 at }
-        ensures back { view_of result.1 ≡ part (view_of self.now) at ((view_of self.now).len - at) }
-        ensures front_list { bits_of result.0 ≡ take at (bits_of self.now) }
-        ensures back_list { bits_of result.1 ≡ drop at (bits_of self.now) }
-    {
+        // With so few bits no sum of places exceeds `usize`.
         let behind = self.shift + at;
         let front = BitStr {
             storage: self.storage,

@@ -5,8 +5,7 @@ ghost use Rattle.asn1_bits.specs.Bits.{digits, number};
 ghost use Rattle.asn1_bits.specs.BitStr.{view_of, bits_of};
 
 use super::BitStr;
-use crate::reads::{read_57, read_64, read_128, read_word};
-use crate::window::whole_word;
+use crate::reads::{read_57, read_64, read_128, read_word, whole_word};
 
 impl BitStr<'_> {
     /// The number of the first `width` bits, the first of them its highest digit. `INLINE_NEAR_END` inlines

@@ -4,8 +4,8 @@ ghost use Rattle.std.specs.Prelude.{◌≡◌, ◌+◌, ◌-◌, ◌*◌, ◌++�
 ghost use Rattle.std.specs.Int.{to_le_bytes, w64};
 ghost use Rattle.asn1_bits.specs.Bits.{bits, digits, ored, overwritten, IsZeroFrom};
 
-use crate::overwrite::clear_bits;
-use crate::window::{eight, load};
+use crate::clear::clear_bits;
+use crate::reads::{eight, load};
 
 /// Eight octets from one of them on, as a word whose lowest octet is the first of them.
 #[inline(always)]
@@ -143,20 +143,6 @@ pub(super) fn add_octets(dst: &mut [u8], position: usize, word: u64)
     let begun = u64::from(dst[first]);
     let turned = u64::from_le_bytes(word.to_be_bytes());
     store_octets(dst, first, (begun + turned).to_le_bytes());
-}
-
-/// Writes a number of `width` digits over zeros from bit `position` on. They lie within eight
-/// octets of the slice: one octet is loaded and eight are stored.
-#[inline(always)]
-pub(super) fn put_word(dst: &mut [u8], position: usize, word: u64, width: usize)
-    requires some { 0 < width }
-    requires width { position % 8 + width ≤ 64 }
-    requires below { word < 2 ^ width }
-    requires eight { position / 8 + 8 ≤ length dst.old }
-    requires zeros { IsZeroFrom position (bits dst.old) }
-    ensures { bits dst.new ≡ ored (bits dst.old) position (digits word width) }
-{
-    add_octets(dst, position, word << (64 - width - position % 8));
 }
 
 /// Writes a number over zeros from bit `position` on. Its digits lie within sixteen octets of the

@@ -7,7 +7,7 @@ use Rattle.asn1_number.specs.Laws.ShortestLaws.{shortest_octets_are}
 use Rattle.asn1_number.specs.Laws.WidthLaws.{length-bytes, signed-bytes}
 use Rattle.asn1_number.proofs.SpellingLemmas.{two_words, end_of_word, residue_128}
 use Rattle.asn1_number.proofs.WordLemmas.{two_halves}
-use Rattle.asn1_number.proofs.integer.Integer.spelled.Goals as goal
+use Rattle.asn1_number.proofs.integer.Integer.from_words.Goals as goal
 
 -- the octets that are kept are those of the number's bits, and encode it
 kept : (c : goal.After-to_be_bytes-2)

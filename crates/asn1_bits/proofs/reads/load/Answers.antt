@@ -1,6 +1,6 @@
 use Rattle.std.proofs.Common.{arith}
 use Rattle.asn1_bits.proofs.WindowLemmas.{loaded}
-use Rattle.asn1_bits.proofs.window.load.Goals as goal
+use Rattle.asn1_bits.proofs.reads.load.Goals as goal
 
 pub returns : goal.returns
 returns c =

@@ -2,7 +2,7 @@ use Rattle.std.proofs.Common.{◌≡◌, ◌+◌, ◌-◌, ◌*◌, ◌/◌, ◌
 use Rattle.asn1_bits.specs.Bits.{bits}
 use Rattle.asn1_bits.specs.Laws.DigitLaws.{length-bits}
 use Rattle.asn1_bits.proofs.OverwriteLemmas.{zeros-more}
-use Rattle.asn1_bits.proofs.overwrite.clear_bits.Goals as goal
+use Rattle.asn1_bits.proofs.clear.clear_bits.Goals as goal
 
 pub returns-then-rest-gt0 : goal.returns-then-rest-gt0
 returns-then-rest-gt0 c =

@@ -4,7 +4,7 @@ use Rattle.std.proofs.lemmas.List.{drop-drop}
 use Rattle.asn1_bits.specs.Bits.{bits, digits}
 use Rattle.asn1_bits.specs.Laws.DigitLaws.{length-drop_bits}
 use Rattle.asn1_bits.proofs.ReadWideLemmas.{pair-digits, sixteen-digits, eight-later}
-use Rattle.asn1_bits.proofs.window.wide_of_seventeen.Goals as goal
+use Rattle.asn1_bits.proofs.reads.wide_of_seventeen.Goals as goal
 
 pub returns : goal.returns
 returns c =

@@ -3,7 +3,7 @@ use Rattle.std.proofs.lemmas.List.{length-replicate}
 use Rattle.asn1_bits.specs.Bits.{digits, bits, overwritten}
 use Rattle.asn1_bits.specs.Laws.OverwrittenLaws.{overwritten-none}
 use Rattle.asn1_bits.proofs.OverwriteLemmas.{octet-cleared, octet-put}
-use Rattle.asn1_bits.proofs.overwrite.clear_within.Goals as goal
+use Rattle.asn1_bits.proofs.clear.clear_within.Goals as goal
 
 pub returns-then-count-eq0 : goal.returns-then-count-eq0
 returns-then-count-eq0 c =

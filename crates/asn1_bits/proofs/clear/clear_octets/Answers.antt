@@ -3,7 +3,7 @@ use Rattle.std.proofs.lemmas.List.{drop-drop, length-take, length-drop}
 use borrow.Rule.Slice.PartMut.{put_mid}
 use Rattle.asn1_bits.specs.Bits.{bits}
 use Rattle.asn1_bits.proofs.OverwriteLemmas.{octets-cleared}
-use Rattle.asn1_bits.proofs.overwrite.clear_octets.Goals as goal
+use Rattle.asn1_bits.proofs.clear.clear_octets.Goals as goal
 
 pub returns : goal.returns
 returns c =

@@ -2,7 +2,7 @@ use Rattle.std.proofs.Common.{ℕ, ◌*◌, ◌/◌, ◌%◌, ◌^◌, ◌≡◌
 use Rattle.std.specs.Prelude.{bit_or}
 use Rattle.asn1_bits.specs.Bits.{digits}
 use Rattle.asn1_bits.proofs.ReadWideLemmas.{from-two}
-use Rattle.asn1_bits.proofs.window.digits_from.Goals as goal
+use Rattle.asn1_bits.proofs.reads.digits_from.Goals as goal
 
 pub returns : goal.returns
 returns c =

@@ -4,7 +4,7 @@ use Rattle.asn1_bits.specs.Bits.{bits, digits}
 use Rattle.asn1_bits.specs.Laws.DigitLaws.{length-drop_bits}
 use Rattle.asn1_bits.proofs.ReadWideLemmas.{nine-digits, eight-later}
 use Rattle.asn1_bits.proofs.WindowLemmas.{bits-octet}
-use Rattle.asn1_bits.proofs.window.word_of_nine.Goals as goal
+use Rattle.asn1_bits.proofs.reads.word_of_nine.Goals as goal
 
 pub returns : goal.returns
 returns c =
