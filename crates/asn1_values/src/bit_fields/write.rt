@@ -7,7 +7,7 @@ ghost use Rattle.asn1_bits.specs.BitAppender.{room};
 ghost use Rattle.asn1_values.specs.Fields.{AreSpelledBy, HaveOneSpelling};
 ghost use Rattle.asn1_values.specs.Plain.{plain_field, plain_fields};
 ghost use Rattle.asn1_values.specs.Refusals.{IsWriteRefusal};
-ghost use Rattle.asn1_values.specs.Steps.{TakesBits, HasLength, EndsAt, CanBeRefused, HasRoomBehind, HaveRoom, Measures, MeasuresAll, IsTheRefusal, CanBeAppended, AppendsFields, PushesAllIfFit, PushesIfFits};
+ghost use Rattle.asn1_values.specs.Steps.{TakesBits, HasLength, EndsAt, CanBeRefused, HasRoomBehind, HaveRoom, Measures, MeasuresAll, IsTheRefusal, AppendsFields, PushesAllIfFit, PushesIfFits};
 ghost use Rattle.asn1_values.specs.Wrong.{Fits};
 
 use super::error::WriteError;
@@ -127,25 +127,8 @@ fn append_all(buffer: &mut BitBuffer, fields: &[Field<'_, '_>], turns: &mut Turn
 {
     let len = buffer.len();
     let end = append_end_if_all_fit(len, fields)?;
-    push_or_back(buffer, end - len, fields, turns)
-}
-
-/// Appends the fields' bits, `additional` in number. `None` if a character is not in its alphabet,
-/// or memory fails; then nothing has changed.
-#[inline(always)]
-fn push_or_back(
-    buffer: &mut BitBuffer,
-    additional: usize,
-    fields: &[Field<'_, '_>],
-    turns: &mut Turns,
-) -> Option<()>
-    requires { CanBeAppended (plain_fields fields.now) (length buffer.old) additional }
-    ensures { AppendsFields (plain_fields fields.now) buffer.old buffer.new turns.old.count
-        turns.new.count result }
-{
-    let len = buffer.len();
     let mut taken = Turns::new();
-    let Ok(mut appender) = buffer.appender(additional) else {
+    let Ok(mut appender) = buffer.appender(end - len) else {
         return None;
     };
     match push_all(&mut appender, fields, &mut taken) {
