@@ -62,22 +62,31 @@ impl<'r> Scope<'r> {
     /// Returns `UnknownModule`, `Undefined`, or `Consequence` if the import of the name has an error.
     pub fn definition(self, place: Place) -> Result<Place, NotationError> {
         let entry = self.entry(place.index);
-        match entry.item {
-            Item::ExternalReference | Item::ExternalValue => {
-                let Some(module) = self.module_named(entry) else {
-                    return Err(self.error(Problem::UnknownModule, place));
-                };
-                let name = self.entry(place.index.saturating_add(1));
-                match self.defined_in(module, name) {
-                    Some(index) => Ok(Place {
-                        module,
-                        index,
-                        instance: 0,
-                    }),
-                    None => Err(self.error(Problem::Undefined, place)),
-                }
+        if !self.has_module(place) {
+            return self.definition_here(place, entry);
+        }
+        let Some(module) = self.module_named(entry) else {
+            return Err(self.error(Problem::UnknownModule, place));
+        };
+        let name = self.entry(place.index.saturating_add(1));
+        match self.defined_in(module, name) {
+            Some(index) => Ok(Place {
+                module,
+                index,
+                instance: 0,
+            }),
+            None => Err(self.error(Problem::Undefined, place)),
+        }
+    }
+
+    /// Returns whether a name has the name of its module before it.
+    fn has_module(self, place: Place) -> bool {
+        match self.item(place) {
+            Item::ExternalReference | Item::ExternalValue => true,
+            Item::FieldType => {
+                self.entry(place.index.saturating_add(1)).item == Item::ExternalName
             }
-            _ => self.definition_here(place, entry),
+            _ => false,
         }
     }
 
