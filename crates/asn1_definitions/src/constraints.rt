@@ -1,8 +1,9 @@
 //! What the constraints of a type permit, as the packed encoding rules look at them (X.691 10.3).
 
 use crate::characters::{CharacterSet, NO_CHARACTERS};
+use crate::names::MAX_STEPS;
 use crate::permitted::{ALL_NUMBERS, EVERYTHING, Hull, Permitted};
-use crate::scope::{MAX_STEPS, Place, Scope};
+use crate::scope::{Place, Scope};
 use asn1_notation::{Item, NotationError, Problem, Word};
 use std::str;
 

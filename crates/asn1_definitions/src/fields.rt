@@ -1,6 +1,7 @@
 //! The fields of classes, and the settings of objects (X.681).
 
-use crate::scope::{Inside, MAX_STEPS, Place, Scope};
+use crate::names::MAX_STEPS;
+use crate::scope::{Inside, Place, Scope};
 use asn1_notation::{Entry, Item, NotationError, Problem, Word, wide};
 
 /// What a field of a class is as a type (X.681 14).

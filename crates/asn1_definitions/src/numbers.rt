@@ -1,6 +1,7 @@
 //! The numbers and strings that values are.
 
-use crate::scope::{MAX_STEPS, Place, Scope};
+use crate::names::MAX_STEPS;
+use crate::scope::{Place, Scope};
 use asn1_notation::{Entry, Item, NotationError, Problem};
 
 /// Returns the number that digits are. `None` if it exceeds 2^127 - 1.

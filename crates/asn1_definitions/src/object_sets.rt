@@ -130,6 +130,8 @@ enum Element {
     Object(Place),
     /// A set: its braces or parentheses.
     Set(Place),
+    /// All objects, from which EXCEPT then takes some (X.681 12.3).
+    All,
 }
 
 /// Returns whether the last field of an object is a set: its name begins with a capital (X.681 9.2).
@@ -146,6 +148,20 @@ fn is_set_of_object(scope: Scope<'_>, place: Place) -> bool {
     is_set
 }
 
+/// Returns what an element of a set that is a reserved word is: ALL, before EXCEPT.
+fn all_objects(scope: Scope<'_>, place: Place) -> Result<Element, NotationError> {
+    let entry = scope.entry(place.index);
+    let after = scope.entry(wide(entry.end));
+    let (word, next) = (
+        Word::of_text(scope.text_of(entry)),
+        Word::of_text(scope.text_of(after)),
+    );
+    match (word, next) {
+        (Some(Word::All), Some(Word::Except)) => Ok(Element::All),
+        _ => Err(scope.error(Problem::Expected("an object, a set or ALL EXCEPT"), place)),
+    }
+}
+
 /// Returns what an element of a set is, through names.
 fn element_of(scope: Scope<'_>, place: Place) -> Result<Element, NotationError> {
     match scope.item(place) {
@@ -157,8 +173,7 @@ fn element_of(scope: Scope<'_>, place: Place) -> Result<Element, NotationError> 
             Ok(Element::Object(scope.braces_of(place)?))
         }
         Item::Literal if Word::of_text(scope.text_of(scope.entry(place.index))).is_some() => {
-            let feature = "ALL EXCEPT in a set of objects (X.681 12.3)";
-            Err(scope.error(Problem::Unsupported(feature), place))
+            all_objects(scope, place)
         }
         Item::Literal | Item::Reference | Item::ExternalReference => {
             Ok(Element::Set(scope.braces_of(place)?))
@@ -226,14 +241,16 @@ impl Objects {
     /// [`Problem::Circular`] if a set contains itself.
     pub fn next(&mut self, scope: Scope<'_>) -> Result<Option<Place>, NotationError> {
         let mut work = Work { left: MAX_WORK };
-        self.next_object(scope, &mut work, MAX_RESTRICTIONS)
+        self.next_object(scope, None, &mut work, MAX_RESTRICTIONS)
     }
 
-    /// Returns the next object that the restrictions of the parts around it leave.
+    /// Returns the next object that the restrictions of the parts around it leave. ALL has the object that is
+    /// looked for.
     #[cycle(objects)]
     fn next_object(
         &mut self,
         scope: Scope<'_>,
+        wanted: Option<Place>,
         work: &mut Work,
         steps: usize,
     ) -> Result<Option<Place>, NotationError> {
@@ -248,13 +265,22 @@ impl Objects {
                 return Err(scope.error(Problem::TooMuchWork, term.first));
             }
             work.left -= 1;
-            match element_of(scope, term.first)? {
-                Element::Set(set) => self.enter(scope, set, term.first)?,
-                Element::Object(object) => {
-                    if self.leaves(scope, object, work, steps)? {
-                        return Ok(Some(object));
-                    }
+            let object = match element_of(scope, term.first)? {
+                Element::Set(set) => {
+                    self.enter(scope, set, term.first)?;
+                    None
                 }
+                Element::Object(object) => Some(object),
+                Element::All if wanted.is_none() => {
+                    let feature = "ALL EXCEPT that is not after `^` or EXCEPT (X.681 12.3)";
+                    return Err(scope.error(Problem::Unsupported(feature), term.first));
+                }
+                Element::All => wanted,
+            };
+            if let Some(object) = object
+                && self.leaves(scope, object, work, steps)?
+            {
+                return Ok(Some(object));
             }
         }
         Ok(None)
@@ -302,6 +328,9 @@ impl Objects {
         let set = match element_of(scope, element)? {
             Element::Object(found) => return Ok(found == object),
             Element::Set(set) => set,
+            Element::All => {
+                return Err(scope.error(Problem::Expected("`(` before ALL EXCEPT"), element));
+            }
         };
         let mut objects = Objects {
             sets: [None; MAX_SETS],
@@ -309,7 +338,7 @@ impl Objects {
         };
         objects.enter(scope, set, element)?;
         for _ in 0..MAX_WORK {
-            match objects.next_object(scope, work, steps - 1)? {
+            match objects.next_object(scope, Some(object), work, steps - 1)? {
                 Some(found) if found == object => return Ok(true),
                 Some(_) => {}
                 None => break,

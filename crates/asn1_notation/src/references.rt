@@ -55,24 +55,27 @@ impl<'m, 'a> Parser<'m, 'a> {
             TokenKind::Upper => {
                 self.turn_into(index, Item::ExternalReference);
                 self.add_next(Item::ExternalName);
-                if self.sees_symbol(Symbol::Dot) {
-                    let feature = "a field of a class after the name of its module (X.681 14)";
-                    return Err(self.error(Problem::Unsupported(feature)));
+                if self.accept_symbol(Symbol::Dot) {
+                    return self.fields_of_class(index);
                 }
                 Ok(())
             }
-            TokenKind::Symbol(Symbol::Ampersand) => {
-                self.turn_into(index, Item::FieldType);
-                for _ in 0..self.left() {
-                    self.field_name()?;
-                    if !self.accept_symbol(Symbol::Dot) {
-                        break;
-                    }
-                }
-                Ok(())
-            }
+            TokenKind::Symbol(Symbol::Ampersand) => self.fields_of_class(index),
             _ => Err(self.expected("the name of a type or of a field")),
         }
+    }
+
+    /// Reads the fields after the name of a class, whose entry is at an index: each further field is one of
+    /// the class of the field before it.
+    fn fields_of_class(&mut self, index: usize) -> Result<(), NotationError> {
+        self.turn_into(index, Item::FieldType);
+        for _ in 0..self.left() {
+            self.field_name()?;
+            if !self.accept_symbol(Symbol::Dot) {
+                break;
+            }
+        }
+        Ok(())
     }
 
     /// Reads `&` and the name of a field.

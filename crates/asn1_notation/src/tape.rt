@@ -83,8 +83,9 @@ pub enum Item {
     Reference,
     /// `Module.Type`, named by the module. { ExternalName, maybe Arguments, Constraint.. }
     ExternalReference,
-    /// `CLASS.&field`, named by the class (X.681 14.1), or of TYPE-IDENTIFIER by its word: each further
-    /// field is one of the class of the field before it. { FieldName.., Constraint.. }
+    /// `CLASS.&field`, named by the class or its module (X.681 14.1), or of TYPE-IDENTIFIER by its word: each
+    /// further field is one of the class of the field before it. { maybe ExternalName, FieldName..,
+    /// Constraint.. }
     FieldType,
     /// A type that a field of an object is, named by the object (X.681 15). { FieldName.., Constraint.. }
     TypeFromObject,
