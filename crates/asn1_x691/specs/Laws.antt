@@ -7,6 +7,9 @@ pub mod FragmentLaws
 pub mod StringLaws
 pub mod AlphabetLaws
 pub mod CharacterLaws
+pub mod ListLaws
+pub mod ListMadeLaws
+pub mod ListTypeLaws
 pub mod OpenTypeLaws
 pub mod PieceLaws
 pub mod GoodTypes

@@ -8,6 +8,7 @@ pub mod Alphabets
 pub mod Characters
 pub mod Contents
 pub mod Leaves
+pub mod Lists
 pub mod Types
 pub mod Example
 pub mod Laws

@@ -1,6 +1,6 @@
 -- What a decoder or an encoder leaves out of the definition. Where a value exceeds a limit, the fault is `Unsupported`, and the limits
--- are part of the definition, so that it is known exactly where that fault is. The definition itself has fragments (X.691 11.9.3.8) of
--- strings and open types alone: a list of 16,384 items or more, and an INTEGER of as many octets, have no encoding in it.
+-- are part of the definition, so that it is known exactly where that fault is. The definition itself has no fragments (X.691 11.9.3.8) of
+-- two types: a SET OF of 16,384 items or more, and an INTEGER of as many octets, have no encoding in it.
 use Rattle.std.specs.Prelude.{ℕ, Bool, true, false, ◌%◌, ◌≡◌, ◌≢◌, ◌<◌, ◌≤◌, ◌⊎◌, List, length}
 use Rattle.asn1_x691.specs.declared.fault.FaultKind.{FaultKind}
 use Rattle.asn1_x691.specs.declared.fault.FaultKind.TheVariants.{Unsupported}
@@ -11,12 +11,14 @@ pub record Limits : Type 0 where
   pub octet_fragments : ℕ
   -- the same of all other strings, of open types and of unknown additions
   pub fragments : ℕ
+  -- the same of the items of a SEQUENCE OF
+  pub item_fragments : ℕ
   -- in the ALIGNED variant, whether the items of a SET OF must begin at octets
   pub sets_on_octets : Bool
 
 -- without limits
 abbrev pub no_limits : Limits
-no_limits = record { octet_fragments = most_fragments; fragments = most_fragments; sets_on_octets = false }
+no_limits = record { octet_fragments = most_fragments; fragments = most_fragments; item_fragments = most_fragments; sets_on_octets = false }
 
 -- an item of a SET OF, or the one whose bits precede it, does not begin at an octet
 abbrev pub IsOffOctet : Bool → Bool → List Bool → ℕ → Type 0
@@ -28,6 +30,7 @@ IsOffOctet true true before at = (0 < length before) × ((at % 8 ≢ 0) ⊎ (len
 pub record AreWithin (limits : Limits) : Type 0 where
   pub octet_fragments : limits.octet_fragments ≤ most_fragments
   pub fragments : limits.fragments ≤ most_fragments
+  pub item_fragments : limits.item_fragments ≤ most_fragments
   pub sets_on_octets : limits.sets_on_octets ≡ true
 
 -- a fault that does not say that a limit was exceeded

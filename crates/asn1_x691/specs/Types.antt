@@ -25,6 +25,7 @@ use Rattle.asn1_x691.specs.Fragments.{octets}
 use Rattle.asn1_x691.specs.Strings.{bit, IsOfRoot, IsAddedSize}
 use Rattle.asn1_x691.specs.Limits.{Limits, IsOffOctet}
 use Rattle.asn1_x691.specs.OpenTypes.{open_type}
+use Rattle.asn1_x691.specs.Lists.{list_where}
 use Rattle.asn1_x691.specs.Contents.{IsObjectIdentifier, IsRelativeIdentifier, IsUtf8Text}
 use Rattle.asn1_x691.specs.Leaves.{by_extension_bit, integer_between_by, integer_at_least_by, integer, enumerated_by, bit_string, octet_string, text, contents, time}
 
@@ -183,17 +184,29 @@ module _ (limits : Limits) (aligned : Bool) (E : ℕ → ℕ → TypeEncoding Fa
   items false item n = several (E item) n
   items true item n = several_by_bits (in_order item) [] n
 
+  -- the items after their number: those of a SEQUENCE OF in fragments from 16,384 on, of a SET OF fewer
+  abbrev pub items_at_least : Bool → ℕ → ℕ → ℕ → TypeEncoding FaultKind
+  items_at_least false least item =
+      list_where (items false item) aligned node limits.item_fragments (λ n. least ≤ n) (λ n. n < least) BelowLeast
+  items_at_least true least item = part (length_at_least aligned least node) Count (λ n. items true item n) node
+
   -- the number of the items, and the items
   abbrev pub sequence_of : Bool → Length → ℕ → ℕ → TypeEncoding FaultKind
-  sequence_of is_set (AtLeast least) item = part (length_at_least aligned least node) Count (λ n. items is_set item n) node
+  sequence_of is_set (AtLeast least) item = items_at_least is_set least item
   sequence_of is_set (Between least range) item =
       part (constrained aligned range node) (count_from least) (λ d. items is_set item (least + d)) node
+
+  -- a number of items that is none of the root, and the items
+  abbrev pub added_items : Bool → Length → ℕ → ℕ → TypeEncoding FaultKind
+  added_items false size item =
+      list_where (items false item) aligned node limits.item_fragments (IsAddedSize size) (IsOfRoot size) InRoot
+  added_items true size item = part (added_length aligned size node) Count (λ n. items true item n) node
 
   -- a bit 0 and a number of the root, or a bit 1 and any other number, as without bounds (20.4)
   abbrev pub sequence_of_by : Bool → Bool → Length → ℕ → ℕ → TypeEncoding FaultKind
   sequence_of_by false is_set size item = sequence_of is_set size item
-  sequence_of_by true is_set size item = by_extension_bit node (IsAddedCount size) (sequence_of is_set size item)
-      (part (added_length aligned size node) Count (λ n. items is_set item n) node)
+  sequence_of_by true is_set size item =
+      by_extension_bit node (IsAddedCount size) (sequence_of is_set size item) (added_items is_set size item)
 
   -- ---- CHOICE (23)
 

@@ -33,7 +33,7 @@ units_after_sound node first =
 units_octets_sound : (node : ℕ) → IsSound (units_octets node)
 units_octets_sound node = then_of number_of (units_after_sound node)
 
-units_next_sound : (aligned : Bool) (node : ℕ) → IsSoundEverywhere (units_next aligned node)
+pub units_next_sound : (aligned : Bool) (node : ℕ) → IsSoundEverywhere (units_next aligned node)
 units_next_sound aligned node = on_octet_sound aligned node (units_octets node) (units_octets_sound node)
 
 -- a fragment of so many times 16,384 units, by its first octet
@@ -92,11 +92,11 @@ units_octets_one node =
     (λ first. units_after_one node first)
     (λ x y u v i j k l p q r s e. (same_first_octet x y u v (told_by node x u k r) (told_by node y v l s) e, e))
 
-units_next_one : (aligned : Bool) (node at : ℕ) → EncodesOne (units_next aligned node at).encodes
+pub units_next_one : (aligned : Bool) (node at : ℕ) → EncodesOne (units_next aligned node at).encodes
 units_next_one aligned node = on_octet_one aligned node (units_octets node) (units_octets_one node)
 
 -- a number of units that follow is below 16,384, or one to four times it
-abbrev IsNext : ℕ → Type 0
+abbrev pub IsNext : ℕ → Type 0
 IsNext n = (n < 16384) ⊎ ((times : ℕ) × (1 ≤ times) × (times ≤ 4) × (n ≡ 16384 * times))
 
 next_of : (first n : ℕ) → Told first n → IsNext n
@@ -104,7 +104,7 @@ next_of first n (inl p) = inl (omega (arith, p.0, p.1))
 next_of first n (inr (inl p)) = inl (omega (arith, p.0, p.1.is, p.1.octet, p.1.two))
 next_of first n (inr (inr p)) = inr (p.times, p.some, p.few, p.is)
 
-is_next : (aligned : Bool) (node at n : ℕ) (k : List Bool) → (units_next aligned node at).encodes n k → IsNext n
+pub is_next : (aligned : Bool) (node at n : ℕ) (k : List Bool) → (units_next aligned node at).encodes n k → IsNext n
 is_next aligned node at n k p =
     let q = inner aligned node at (units_octets node) n k p in
     subst (λ (m : ℕ). IsNext m) (sym q.1.is) (next_of q.1.value q.1.after (told_by node q.1.value q.1.after q.1.rest q.1.second))

@@ -6,7 +6,7 @@ use Rattle.asn1_schema.specs.declared.tables.Range.{Range}
 use Rattle.asn1_schema.specs.declared.tables.Member.{Member}
 use Rattle.asn1_schema.specs.declared.misfit.MisfitKind.TheVariants as misfit
 use Rattle.asn1_schema.specs.Pieces.{Count}
-use Rattle.asn1_schema.specs.TypeEncodings.{TypeEncoding, part, except_type}
+use Rattle.asn1_schema.specs.TypeEncodings.{TypeEncoding, except_type}
 use Rattle.asn1_schema.specs.Laws.TypeLaws.{IsGoodEverywhere, several_good, several_by_bits_good, except_type_good}
 use Rattle.asn1_schema.specs.Laws.HeaderLaws.{BeginsWith}
 use Rattle.asn1_schema.specs.Laws.PermittedLaws.{permitted_sound, permitted_one, permitted_is}
@@ -15,12 +15,13 @@ use Rattle.asn1_x691.specs.declared.fault.FaultKind.TheVariants.{BelowLeast, InR
 use Rattle.asn1_x691.specs.Fields.{constrained, length_of}
 use Rattle.asn1_x691.specs.Strings.{IsOfRoot, IsAddedSize}
 use Rattle.asn1_x691.specs.Limits.{Limits, IsOffOctet}
-use Rattle.asn1_x691.specs.Types.{IsMisplaced, count_from, IsAddedCount, length_at_least, added_length, in_order, items, sequence_of, sequence_of_by}
+use Rattle.asn1_x691.specs.Types.{IsMisplaced, count_from, IsAddedCount, length_at_least, added_length, in_order, items, items_at_least, sequence_of, added_items, sequence_of_by}
 use Rattle.asn1_x691.specs.Laws.FieldLaws.{constrained_sound, length_sound}
 use Rattle.asn1_x691.specs.Laws.OneEncodingLaws.{constrained_one, length_one}
 use Rattle.asn1_x691.specs.Laws.StringLaws.{sizes_apart}
 use Rattle.asn1_x691.specs.Laws.RangeLaws.{not_below}
 use Rattle.asn1_x691.specs.Laws.GoodTypes.{IsType, part_type, by_bit_type}
+use Rattle.asn1_x691.specs.Laws.ListTypeLaws.{list_type, list_begins}
 use Rattle.asn1_x691.specs.Laws.PieceLaws.{count_alike, count_from_alike, count_is_not_added}
 
 module _ (limits : Limits) (aligned : Bool) (E : ℕ → ℕ → TypeEncoding FaultKind) (e : (n : ℕ) → IsType (E n)) (members : List Member)
@@ -37,30 +38,41 @@ module _ (limits : Limits) (aligned : Bool) (E : ℕ → ℕ → TypeEncoding Fa
   items_good true item n =
       several_by_bits_good (in_order limits aligned E members ranges defaults node item) (λ before. in_order_good item before) [] n
 
-  sequence_of_type : (is_set : Bool) (size : Length) (item : ℕ) → IsType (sequence_of limits aligned E members ranges defaults node is_set size item)
-  sequence_of_type is_set (AtLeast least) item =
-      part_type (length_at_least aligned least node) Count (λ n. items limits aligned E members ranges defaults node is_set item n) node
+  at_least_type : (is_set : Bool) (least item : ℕ) → IsType (items_at_least limits aligned E members ranges defaults node is_set least item)
+  at_least_type false least item =
+      list_type (items limits aligned E members ranges defaults node false item) aligned node (λ n. items_good false item n)
+      limits.item_fragments (λ n. least ≤ n) (λ n. n < least) BelowLeast (not_below least)
+  at_least_type true least item =
+      part_type (length_at_least aligned least node) Count (λ n. items limits aligned E members ranges defaults node true item n) node
       (permitted_sound (λ n. least ≤ n) (λ n. n < least) BelowLeast node (length_of aligned node) (not_below least)
       (length_sound aligned node))
       (permitted_one (λ n. least ≤ n) (λ n. n < least) BelowLeast node (length_of aligned node) (length_one aligned node)) count_alike
-      (λ x p. cc) (λ n. items_good is_set item n)
+      (λ x p. cc) (λ n. items_good true item n)
+
+  sequence_of_type : (is_set : Bool) (size : Length) (item : ℕ) → IsType (sequence_of limits aligned E members ranges defaults node is_set size item)
+  sequence_of_type is_set (AtLeast least) item = at_least_type is_set least item
   sequence_of_type is_set (Between least range) item =
       part_type (constrained aligned range node) (count_from least)
       (λ d. items limits aligned E members ranges defaults node is_set item (least + d)) node (constrained_sound aligned range node)
       (constrained_one aligned range node) (count_from_alike least) (λ x p. cc) (λ d. items_good is_set item (least + d))
 
-  added_items_type : (is_set : Bool) (size : Length) (item : ℕ)
-      → IsType (part (added_length aligned size node) Count (λ n. items limits aligned E members ranges defaults node is_set item n) node)
-  added_items_type is_set size item =
-      part_type (added_length aligned size node) Count (λ n. items limits aligned E members ranges defaults node is_set item n) node
+  added_items_type : (is_set : Bool) (size : Length) (item : ℕ) → IsType (added_items limits aligned E members ranges defaults node is_set size item)
+  added_items_type false size item =
+      list_type (items limits aligned E members ranges defaults node false item) aligned node (λ n. items_good false item n)
+      limits.item_fragments (IsAddedSize size) (IsOfRoot size) InRoot (sizes_apart size)
+  added_items_type true size item =
+      part_type (added_length aligned size node) Count (λ n. items limits aligned E members ranges defaults node true item n) node
       (permitted_sound (IsAddedSize size) (IsOfRoot size) InRoot node (length_of aligned node) (sizes_apart size)
       (length_sound aligned node))
       (permitted_one (IsAddedSize size) (IsOfRoot size) InRoot node (length_of aligned node) (length_one aligned node)) count_alike
-      (λ x p. cc) (λ n. items_good is_set item n)
+      (λ x p. cc) (λ n. items_good true item n)
 
-  items_begin : (is_set : Bool) (size : Length) (item at : ℕ)
-      → BeginsWith (λ p. ¬ (IsAddedCount size p)) (sequence_of limits aligned E members ranges defaults node is_set size item at)
-  items_begin is_set (AtLeast least) item at = record {
+  at_least_begins : (is_set : Bool) (least item at : ℕ)
+      → BeginsWith (λ p. ¬ (IsAddedCount (AtLeast least) p)) (items_at_least limits aligned E members ranges defaults node is_set least item at)
+  at_least_begins false least item at =
+      list_begins (items limits aligned E members ranges defaults node false item) aligned node limits.item_fragments (λ n. least ≤ n)
+      (λ n. n < least) BelowLeast at (λ p. ¬ (IsAddedCount (AtLeast least) p)) (λ n p q. not_below least n p q)
+  at_least_begins true least item at = record {
     each = λ xs l p. (
       Count p.value,
       p.after,
@@ -69,9 +81,27 @@ module _ (limits : Limits) (aligned : Bool) (E : ℕ → ℕ → TypeEncoding Fa
           (permitted_is (λ n. least ≤ n) (λ n. n < least) BelowLeast node (length_of aligned node) at p.value p.front p.first),
     );
   }
+
+  items_begin : (is_set : Bool) (size : Length) (item at : ℕ)
+      → BeginsWith (λ p. ¬ (IsAddedCount size p)) (sequence_of limits aligned E members ranges defaults node is_set size item at)
+  items_begin is_set (AtLeast least) item at = at_least_begins is_set least item at
   items_begin is_set (Between least range) item at = record {
     each = λ xs l p.
         (count_from least p.value, p.after, p.is, count_is_not_added aligned least range node at p.value p.front p.first);
+  }
+
+  added_begin : (is_set : Bool) (size : Length) (item at : ℕ)
+      → BeginsWith (IsAddedCount size) (added_items limits aligned E members ranges defaults node is_set size item at)
+  added_begin false size item at =
+      list_begins (items limits aligned E members ranges defaults node false item) aligned node limits.item_fragments (IsAddedSize size)
+      (IsOfRoot size) InRoot at (IsAddedCount size) (λ n p. p)
+  added_begin true size item at = record {
+    each = λ xs l p. (
+      Count p.value,
+      p.after,
+      p.is,
+      permitted_is (IsAddedSize size) (IsOfRoot size) InRoot node (length_of aligned node) at p.value p.front p.first,
+    );
   }
 
   pub sequence_of_by_type : (b is_set : Bool) (size : Length) (item : ℕ)
@@ -79,13 +109,5 @@ module _ (limits : Limits) (aligned : Bool) (E : ℕ → ℕ → TypeEncoding Fa
   sequence_of_by_type false is_set size item = sequence_of_type is_set size item
   sequence_of_by_type true is_set size item =
       by_bit_type node (IsAddedCount size) (sequence_of limits aligned E members ranges defaults node is_set size item)
-      (part (added_length aligned size node) Count (λ n. items limits aligned E members ranges defaults node is_set item n) node)
-      (sequence_of_type is_set size item) (added_items_type is_set size item) (λ at. items_begin is_set size item at)
-      (λ at. record {
-        each = λ xs l p. (
-          Count p.value,
-          p.after,
-          p.is,
-          permitted_is (IsAddedSize size) (IsOfRoot size) InRoot node (length_of aligned node) at p.value p.front p.first,
-        );
-      })
+      (added_items limits aligned E members ranges defaults node is_set size item) (sequence_of_type is_set size item)
+      (added_items_type is_set size item) (λ at. items_begin is_set size item at) (λ at. added_begin is_set size item at)

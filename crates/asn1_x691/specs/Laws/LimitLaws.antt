@@ -1,18 +1,19 @@
 -- Limits only reject more: what is decoded within limits is decoded without them, and its first fault is theirs, if it is not that of
 -- a limit.
-use Rattle.std.proofs.Common.{ℕ, zero, suc, ◌+◌, ◌<◌, ◌≤◌, Bool, true, false, List, ◌++◌, length, refl, arith}
+use Rattle.std.proofs.Common.{ℕ, zero, suc, ◌+◌, ◌<◌, ◌≤◌, Bool, true, false, List, ◌∷◌, ◌++◌, length, refl, arith}
 use Rattle.asn1_schema.specs.declared.tables.Length.{Length}
 use Rattle.asn1_schema.specs.declared.tables.Length.TheVariants.{AtLeast, Between}
 use Rattle.asn1_schema.specs.declared.tables.Range.{Range}
-use Rattle.asn1_schema.specs.Pieces.{Piece, Bits, Octets, Text, Unknown}
+use Rattle.asn1_schema.specs.Pieces.{Piece, Bits, Octets, Text, Count, Unknown, Parts}
 use Rattle.asn1_schema.specs.Encodings.{Encoding, constant, invalid, anywhere, permitted, in_case, with_bits}
 use Rattle.asn1_schema.specs.TypeEncodings.{TypeEncoding, leaf, either_by_bit}
 use Rattle.asn1_schema.specs.Laws.NarrowLaws.{AreNarrow, TypesAreNarrow, same_narrow, limit_narrow, cases_narrow, in_turn_narrow, permitted_narrow, with_bits_narrow, leaf_narrow, header_narrow, either_by_bit_narrow, ContentsAreNarrow, then_contents_narrow, enclosed_narrow}
 use Rattle.asn1_x691.specs.declared.fault.FaultKind.{FaultKind}
-use Rattle.asn1_x691.specs.declared.fault.FaultKind.TheVariants.{Unsupported, BelowLeast, InRoot, NotTrimmed, Contents}
+use Rattle.asn1_x691.specs.declared.fault.FaultKind.TheVariants.{NotMinimal, Unsupported, BelowLeast, InRoot, NotTrimmed, Contents}
 use Rattle.asn1_x691.specs.Fragments.{units, units_then, units_below, last_units, units_next, all_units, bits_of_units, string, octets}
 use Rattle.asn1_x691.specs.Strings.{bit, where_size, string_where, sized_string, string_of, added_string, IsOfRoot, IsAddedSize}
 use Rattle.asn1_x691.specs.Characters.{characters, sized_text, text_where, text_of, added_text, IsAddedText}
+use Rattle.asn1_x691.specs.Lists.{numbered_items, list_where}
 use Rattle.asn1_x691.specs.OpenTypes.{padding, complete, enclosing, open_type}
 use Rattle.asn1_x691.specs.Limits.{IsNoLimit}
 use Rattle.asn1_x691.specs.Leaves.{by_extension_bit, AreAddedBits, AreAddedOctets, AreTrimmed, string_by, bits_by, bit_string, octet_string, text, contents, visible, time}
@@ -28,54 +29,66 @@ a_limit h = h refl
 
 -- ---- units in fragments
 
-module _ {Y : Type 0} (U : ℕ → ℕ → Encoding FaultKind Y) (join : Y → Y → Y) (aligned : Bool) (node : ℕ) where
+-- U and V say how units are encoded, and U rejects more
+module _ {Y : Type 0} (U V : ℕ → ℕ → Encoding FaultKind Y) (u : (n : ℕ) → Narrow (U n) (V n)) (join : Y → Y → Y) (aligned : Bool) (node : ℕ) where
   abbrev N : ℕ → Encoding FaultKind ℕ
   N = units_next aligned node
 
   -- what follows a number that begins a fragment, where so many more fragments may follow
-  abbrev Long : ℕ → ℕ → ℕ → Encoding FaultKind (ℕ × Y)
-  Long more n = in_case (n < 65536) (units_then U join aligned node n (last_units U join aligned node)) (65536 ≤ n)
-      (units_then U join aligned node n (all_units U join aligned node more))
+  abbrev Long : (ℕ → ℕ → Encoding FaultKind Y) → ℕ → ℕ → ℕ → Encoding FaultKind (ℕ × Y)
+  Long T more n = in_case (n < 65536) (units_then T join aligned node n (last_units T join aligned node)) (65536 ≤ n)
+      (units_then T join aligned node n (all_units T join aligned node more))
 
-  abbrev None_longer : ℕ → ℕ → Encoding FaultKind (ℕ × Y)
-  None_longer n = anywhere (invalid Unsupported node)
+  abbrev None_longer : FaultKind → ℕ → ℕ → Encoding FaultKind (ℕ × Y)
+  None_longer kind n = anywhere (invalid kind node)
 
-  abbrev Next : (ℕ → ℕ → Encoding FaultKind (ℕ × Y)) → ℕ → ℕ → Encoding FaultKind (ℕ × Y)
-  Next L n = in_case (n < 16384) (units U join aligned node n) (16384 ≤ n) (L n)
+  abbrev Next : (ℕ → ℕ → Encoding FaultKind Y) → (ℕ → ℕ → Encoding FaultKind (ℕ × Y)) → ℕ → ℕ → Encoding FaultKind (ℕ × Y)
+  Next T L n = in_case (n < 16384) (units T join aligned node n) (16384 ≤ n) (L n)
 
-  next_narrow : (L M : ℕ → ℕ → Encoding FaultKind (ℕ × Y)) → ((n : ℕ) → Narrow (L n) (M n)) → (n : ℕ) → Narrow (Next L n) (Next M n)
+  few_narrow : (n : ℕ) → Narrow (units U join aligned node n) (units V join aligned node n)
+  few_narrow n at =
+      let E = λ (y : Y). anywhere {K = FaultKind} (constant (tt {0})) in
+      in_turn_narrow IsNoLimit (U n) (V n) (λ y v. (n, y)) E E at (u n at) (λ y front w. same_narrow IsNoLimit (constant (tt {0})))
+
+  next_narrow : (L M : ℕ → ℕ → Encoding FaultKind (ℕ × Y)) → ((n : ℕ) → Narrow (L n) (M n)) → (n : ℕ) → Narrow (Next U L n) (Next V M n)
   next_narrow L M l n at =
-      cases_narrow IsNoLimit (n < 16384) (units U join aligned node n at) (16384 ≤ n) (L n at) (units U join aligned node n at) (M n at)
-      (same_narrow IsNoLimit (units U join aligned node n at)) (l n at)
+      cases_narrow IsNoLimit (n < 16384) (units U join aligned node n at) (16384 ≤ n) (L n at) (units V join aligned node n at) (M n at)
+      (few_narrow n at) (l n at)
 
-  below_narrow : (more : ℕ) → Narrow (units_below U join aligned node Unsupported) (all_units U join aligned node more)
-  below_narrow zero at = same_narrow IsNoLimit (units_below U join aligned node Unsupported at)
-  below_narrow (suc more) at =
-      in_turn_narrow IsNoLimit N N (λ n v. v) (Next None_longer) (Next (Long more)) at (same_narrow IsNoLimit (N at))
-      (λ n front w. next_narrow None_longer (Long more) (λ m p. limit_narrow IsNoLimit Unsupported node (Long more m p) a_limit) n
-      (at + length front))
+  below_narrow : (kind : FaultKind) → Narrow (units_below U join aligned node kind) (units_below V join aligned node kind)
+  below_narrow kind at =
+      in_turn_narrow IsNoLimit N N (λ n v. v) (Next U (None_longer kind)) (Next V (None_longer kind)) at (same_narrow IsNoLimit (N at))
+      (λ n front w. next_narrow (None_longer kind) (None_longer kind) (λ m p. same_narrow IsNoLimit (invalid kind node)) n (at + length front))
+
+  limit_of_all_narrow : (more : ℕ) → Narrow (units_below U join aligned node Unsupported) (all_units V join aligned node more)
+  limit_of_all_narrow zero = below_narrow Unsupported
+  limit_of_all_narrow (suc more) = λ at.
+      in_turn_narrow IsNoLimit N N (λ n v. v) (Next U (None_longer Unsupported)) (Next V (Long V more)) at (same_narrow IsNoLimit (N at))
+      (λ n front w. next_narrow (None_longer Unsupported) (Long V more)
+      (λ m p. limit_narrow IsNoLimit Unsupported node (Long V more m p) a_limit) n (at + length front))
 
   then_narrow : (n : ℕ) (R S : ℕ → Encoding FaultKind (ℕ × Y)) → Narrow R S
-      → Narrow (units_then U join aligned node n R) (units_then U join aligned node n S)
+      → Narrow (units_then U join aligned node n R) (units_then V join aligned node n S)
   then_narrow n R S r at =
-      in_turn_narrow IsNoLimit (U n) (U n) (λ y v. (n + v.0, join y v.1)) (λ y. R) (λ y. S) at (same_narrow IsNoLimit (U n at))
+      in_turn_narrow IsNoLimit (U n) (V n) (λ y v. (n + v.0, join y v.1)) (λ y. R) (λ y. S) at (u n at)
       (λ y front w. r (at + length front))
 
-  long_narrow : (most more : ℕ) → Narrow (all_units U join aligned node most) (all_units U join aligned node more)
-      → (n : ℕ) → Narrow (Long most n) (Long more n)
+  long_narrow : (most more : ℕ) → Narrow (all_units U join aligned node most) (all_units V join aligned node more)
+      → (n : ℕ) → Narrow (Long U most n) (Long V more n)
   long_narrow most more r n at =
       let A = all_units U join aligned node most in
-      let B = all_units U join aligned node more in
-      let T = units_then U join aligned node n (last_units U join aligned node) at in
-      cases_narrow IsNoLimit (n < 65536) T (65536 ≤ n) (units_then U join aligned node n A at) T (units_then U join aligned node n B at)
-      (same_narrow IsNoLimit T) (then_narrow n A B r at)
+      let B = all_units V join aligned node more in
+      cases_narrow IsNoLimit (n < 65536) (units_then U join aligned node n (last_units U join aligned node) at) (65536 ≤ n)
+      (units_then U join aligned node n A at) (units_then V join aligned node n (last_units V join aligned node) at)
+      (units_then V join aligned node n B at)
+      (then_narrow n (last_units U join aligned node) (last_units V join aligned node) (below_narrow NotMinimal) at) (then_narrow n A B r at)
 
-  pub all_narrow : (most more : ℕ) → most ≤ more → Narrow (all_units U join aligned node most) (all_units U join aligned node more)
-  all_narrow zero more h = below_narrow more
+  pub all_narrow : (most more : ℕ) → most ≤ more → Narrow (all_units U join aligned node most) (all_units V join aligned node more)
+  all_narrow zero more h = limit_of_all_narrow more
   all_narrow (suc most) zero h = absurd (omega (arith, h))
   all_narrow (suc most) (suc more) h = λ at.
-      in_turn_narrow IsNoLimit N N (λ n v. v) (Next (Long most)) (Next (Long more)) at (same_narrow IsNoLimit (N at))
-      (λ n front w. next_narrow (Long most) (Long more) (long_narrow most more (all_narrow most more (omega (arith, h)))) n
+      in_turn_narrow IsNoLimit N N (λ n v. v) (Next U (Long U most)) (Next V (Long V more)) at (same_narrow IsNoLimit (N at))
+      (λ n front w. next_narrow (Long U most) (Long V more) (long_narrow most more (all_narrow most more (omega (arith, h)))) n
       (at + length front))
 
 -- ---- complete encodings
@@ -90,7 +103,9 @@ complete_narrow node A B a =
 
 module _ (most more : ℕ) (h : most ≤ more) (aligned : Bool) (node : ℕ) where
   string_narrow : (unit : ℕ) → Narrow (string most aligned unit node) (string more aligned unit node)
-  string_narrow unit = all_narrow (bits_of_units unit node) (λ a b. a ++ b) aligned node most more h
+  string_narrow unit =
+      let U = bits_of_units unit node in
+      all_narrow U U (λ n at. same_narrow IsNoLimit (U n at)) (λ a b. a ++ b) aligned node most more h
 
   pub octets_narrow : Narrow (octets most aligned node) (octets more aligned node)
   octets_narrow at =
@@ -119,12 +134,22 @@ module _ (most more : ℕ) (h : most ≤ more) (aligned : Bool) (node : ℕ) whe
       let W = λ (v : ℕ × List ℕ). where_size Yes No kind node v in
       let U = characters aligned ranges node in
       in_turn_narrow IsNoLimit (all_units U (λ a b. a ++ b) aligned node most) (all_units U (λ a b. a ++ b) aligned node more)
-      (λ v text. text) W W at (all_narrow U (λ a b. a ++ b) aligned node most more h at)
+      (λ v text. text) W W at (all_narrow U U (λ n to. same_narrow IsNoLimit (U n to)) (λ a b. a ++ b) aligned node most more h at)
       (λ v front w. same_narrow IsNoLimit (W v (at + length front)))
 
   text_of_narrow : (ranges : List Range) (size : Length) → Narrow (text_of most aligned ranges node size) (text_of more aligned ranges node size)
   text_of_narrow ranges (AtLeast least) = text_where_narrow ranges (λ n. least ≤ n) (λ n. n < least) BelowLeast
   text_of_narrow ranges (Between least range) = λ at. same_narrow IsNoLimit (sized_text aligned ranges node least range at)
+
+  -- ---- lists
+
+  pub list_narrow : (A B : ℕ → ℕ → TypeEncoding FaultKind) → ((n : ℕ) → NarrowTypes (A n) (B n)) → (Yes No : ℕ → Type 0) (kind : FaultKind)
+      → NarrowTypes (list_where A aligned node most Yes No kind) (list_where B aligned node more Yes No kind)
+  list_narrow A B a Yes No kind at =
+      let W = λ (v : ℕ × Parts). where_size Yes No kind node (v.0, Count v.0 ∷ v.1) in
+      in_turn_narrow IsNoLimit (numbered_items A aligned node most) (numbered_items B aligned node more) (λ v ts. ts) W W at
+      (all_narrow (λ n to. (A n to).encoding) (λ n to. (B n to).encoding) a (λ xs ys. xs ++ ys) aligned node most more h at)
+      (λ v front w. same_narrow IsNoLimit (W v (at + length front)))
 
   -- ---- types of one part
 

@@ -1,5 +1,5 @@
 -- A type within limits only rejects more than the type of X.691.
-use Rattle.std.proofs.Common.{◌≡◌, ◌≢◌, ℕ, zero, suc, ◌+◌, ◌-◌, ◌<◌, ◌%◌, nat_lt, inl, inr, Bool, true, false, List, [], length, refl, sym, ap, subst, arith, Option, Some, None}
+use Rattle.std.proofs.Common.{◌≡◌, ◌≢◌, ℕ, zero, suc, ◌+◌, ◌-◌, ◌<◌, ◌≤◌, ◌%◌, nat_lt, inl, inr, Bool, true, false, List, [], length, refl, sym, ap, subst, arith, Option, Some, None}
 use Rattle.std.proofs.lemmas.List.{append-nil}
 use Rattle.std.specs.Prelude.{◌⊎◌, slice_get, slice_range}
 use Rattle.asn1_schema.specs.declared.tables.Presence.{Presence}
@@ -14,6 +14,7 @@ use Rattle.asn1_schema.specs.declared.tables.Node.TheVariants as type
 use Rattle.asn1_schema.specs.declared.misfit.MisfitKind.TheVariants as misfit
 use Rattle.asn1_schema.specs.Pieces.{Parts, Sequence, Count, Chosen, Additions}
 use Rattle.asn1_schema.specs.Order.{IsBefore}
+use Rattle.asn1_schema.specs.Encodings.{Encoding}
 use Rattle.asn1_schema.specs.Fields.{raw_bits}
 use Rattle.asn1_schema.specs.TypeEncodings.{TypeEncoding, AfterHeader, part, header, both, put, except_type}
 use Rattle.asn1_schema.specs.Narrow.{RejectsMore}
@@ -22,13 +23,15 @@ use Rattle.asn1_schema.specs.Laws.NarrowLaws.{AfterIsNarrow, same_narrow, both_n
 use Rattle.asn1_schema.specs.Times.{IsTime}
 use Rattle.asn1_schema.specs.Reals.{IsReal}
 use Rattle.asn1_x691.specs.declared.fault.FaultKind.{FaultKind}
-use Rattle.asn1_x691.specs.declared.fault.FaultKind.TheVariants.{Short, NoNode, NoAddition, DefaultValue, NotAscending, Unsupported}
+use Rattle.asn1_x691.specs.declared.fault.FaultKind.TheVariants.{Short, NoNode, NoAddition, BelowLeast, InRoot, DefaultValue, NotAscending, Unsupported}
 use Rattle.asn1_x691.specs.Fields.{phase, constrained, small_length, small_number}
 use Rattle.asn1_x691.specs.Fragments.{most_fragments}
+use Rattle.asn1_x691.specs.Strings.{IsOfRoot, IsAddedSize}
+use Rattle.asn1_x691.specs.Lists.{list_where}
 use Rattle.asn1_x691.specs.Contents.{IsObjectIdentifier, IsRelativeIdentifier, IsUtf8Text}
 use Rattle.asn1_x691.specs.Limits.{Limits, no_limits, AreWithin, IsNoLimit, IsOffOctet}
-use Rattle.asn1_x691.specs.Types.{IsMisplaced, alternative_of_addition, IsAddedAlternative, optional_count, count_from, IsAddedCount, length_at_least, added_length, any_true, value_by, component_by, component, components, root_of, sequence, known_addition, addition, additions_by_bits, some_additions, extension, IsExtended, sequence_by, in_order, items, sequence_of, sequence_of_by, alternative_if, choice, added, choice_extension, choice_by, type_of, type_at}
-use Rattle.asn1_x691.specs.Laws.LimitLaws.{NarrowTypes, by_bit_narrow, bit_string_narrow, octet_string_narrow, text_narrow, contents_narrow, time_narrow, unknown_narrow, open_type_narrow}
+use Rattle.asn1_x691.specs.Types.{IsMisplaced, alternative_of_addition, IsAddedAlternative, optional_count, count_from, IsAddedCount, length_at_least, added_length, any_true, value_by, component_by, component, components, root_of, sequence, known_addition, addition, additions_by_bits, some_additions, extension, IsExtended, sequence_by, in_order, items, items_at_least, sequence_of, added_items, sequence_of_by, alternative_if, choice, added, choice_extension, choice_by, type_of, type_at}
+use Rattle.asn1_x691.specs.Laws.LimitLaws.{NarrowTypes, by_bit_narrow, bit_string_narrow, octet_string_narrow, text_narrow, list_narrow, contents_narrow, time_narrow, unknown_narrow, open_type_narrow}
 use Rattle.asn1_x691.specs.Laws.TypeLaws.{type_at_type}
 use Rattle.asn1_x691.specs.Laws.TypePhaseLaws.{type_at_follows}
 
@@ -248,33 +251,56 @@ module _ (limits : Limits) (within : AreWithin limits) (aligned : Bool) (E F : �
       (in_order no_limits aligned F members ranges defaults node item) (in_order_narrow item)
       (λ before p x list w. inr (record { began = p; value = x; ends = refl; encodes = w.0.0 })) n [] at (inl refl)
 
+  lists_narrow : (item : ℕ) (Yes No : ℕ → Type 0) (kind : FaultKind)
+      → NarrowTypes
+      (list_where (items limits aligned E members ranges defaults node false item) aligned node limits.item_fragments Yes No kind)
+      (list_where (items no_limits aligned F members ranges defaults node false item) aligned node most_fragments Yes No kind)
+  lists_narrow item Yes No kind =
+      list_narrow limits.item_fragments most_fragments within.item_fragments aligned node
+      (items limits aligned E members ranges defaults node false item) (items no_limits aligned F members ranges defaults node false item)
+      (λ n. items_narrow false item n) Yes No kind
+
+  set_narrow : (L : ℕ → Encoding FaultKind ℕ) (item : ℕ)
+      → NarrowTypes (part L Count (λ n. items limits aligned E members ranges defaults node true item n) node)
+      (part L Count (λ n. items no_limits aligned F members ranges defaults node true item n) node)
+  set_narrow L item =
+      part_narrow IsNoLimit L L Count (λ n. items limits aligned E members ranges defaults node true item n)
+      (λ n. items no_limits aligned F members ranges defaults node true item n) node (λ at. same_narrow IsNoLimit (L at))
+      (λ n. items_narrow true item n)
+
+  at_least_narrow : (is_set : Bool) (least item : ℕ)
+      → NarrowTypes (items_at_least limits aligned E members ranges defaults node is_set least item)
+      (items_at_least no_limits aligned F members ranges defaults node is_set least item)
+  at_least_narrow false least item = lists_narrow item (λ n. least ≤ n) (λ n. n < least) BelowLeast
+  at_least_narrow true least item = set_narrow (length_at_least aligned least node) item
+
   sequence_of_narrow : (is_set : Bool) (size : Length) (item : ℕ)
       → NarrowTypes (sequence_of limits aligned E members ranges defaults node is_set size item)
       (sequence_of no_limits aligned F members ranges defaults node is_set size item)
-  sequence_of_narrow is_set (AtLeast least) item =
-      part_narrow IsNoLimit (length_at_least aligned least node) (length_at_least aligned least node) Count
-      (λ n. items limits aligned E members ranges defaults node is_set item n)
-      (λ n. items no_limits aligned F members ranges defaults node is_set item n) node
-      (λ at. same_narrow IsNoLimit (length_at_least aligned least node at)) (λ n. items_narrow is_set item n)
+  sequence_of_narrow is_set (AtLeast least) item = at_least_narrow is_set least item
   sequence_of_narrow is_set (Between least range) item =
       part_narrow IsNoLimit (constrained aligned range node) (constrained aligned range node) (count_from least)
       (λ d. items limits aligned E members ranges defaults node is_set item (least + d))
       (λ d. items no_limits aligned F members ranges defaults node is_set item (least + d)) node
       (λ at. same_narrow IsNoLimit (constrained aligned range node at)) (λ d. items_narrow is_set item (least + d))
 
+  added_items_narrow : (is_set : Bool) (size : Length) (item : ℕ)
+      → NarrowTypes (added_items limits aligned E members ranges defaults node is_set size item)
+      (added_items no_limits aligned F members ranges defaults node is_set size item)
+  added_items_narrow false size item = lists_narrow item (IsAddedSize size) (IsOfRoot size) InRoot
+  added_items_narrow true size item = set_narrow (added_length aligned size node) item
+
   sequence_of_by_narrow : (b is_set : Bool) (size : Length) (item : ℕ)
       → NarrowTypes (sequence_of_by limits aligned E members ranges defaults node b is_set size item)
       (sequence_of_by no_limits aligned F members ranges defaults node b is_set size item)
   sequence_of_by_narrow false is_set size item = sequence_of_narrow is_set size item
   sequence_of_by_narrow true is_set size item =
-      let L = λ (n : ℕ). items limits aligned E members ranges defaults node is_set item n in
-      let M = λ (n : ℕ). items no_limits aligned F members ranges defaults node is_set item n in
       by_bit_narrow fs most_fragments within.fragments aligned node (IsAddedCount size)
-      (sequence_of limits aligned E members ranges defaults node is_set size item) (part (added_length aligned size node) Count L node)
-      (sequence_of no_limits aligned F members ranges defaults node is_set size item) (part (added_length aligned size node) Count M node)
-      (sequence_of_narrow is_set size item)
-      (part_narrow IsNoLimit (added_length aligned size node) (added_length aligned size node) Count L M node
-      (λ at. same_narrow IsNoLimit (added_length aligned size node at)) (λ n. items_narrow is_set item n))
+      (sequence_of limits aligned E members ranges defaults node is_set size item)
+      (added_items limits aligned E members ranges defaults node is_set size item)
+      (sequence_of no_limits aligned F members ranges defaults node is_set size item)
+      (added_items no_limits aligned F members ranges defaults node is_set size item) (sequence_of_narrow is_set size item)
+      (added_items_narrow is_set size item)
 
   alternative_narrow : (b : Bool) (m : Option Member) → NarrowTypes (alternative_if limits aligned E members ranges defaults node b m)
       (alternative_if no_limits aligned F members ranges defaults node b m)

@@ -1,6 +1,6 @@
 -- A value of a type has the same encodings at two positions of one phase: at each position in the UNALIGNED variant, and where as
 -- many bits of an octet precede it in the ALIGNED variant.
-use Rattle.std.proofs.Common.{◌≡◌, ℤ, ◌<ℤ◌, ◌≤ℤ◌, ℕ, zero, suc, ◌+◌, ◌-◌, ◌<◌, ◌≤◌, nat_lt, inl, inr, Bool, true, false, List, [], sym, ◌∙◌, ap, Option, Some, None}
+use Rattle.std.proofs.Common.{◌≡◌, ℤ, ◌<ℤ◌, ◌≤ℤ◌, ℕ, zero, suc, ◌+◌, ◌-◌, ◌<◌, ◌≤◌, nat_lt, inl, inr, Bool, true, false, List, [], ◌∷◌, ◌++◌, sym, ◌∙◌, ap, Option, Some, None}
 use Rattle.std.specs.Prelude.{slice_get, slice_range}
 use Rattle.asn1_schema.specs.declared.tables.Presence.{Presence}
 use Rattle.asn1_schema.specs.declared.tables.Presence.TheVariants as presence
@@ -13,7 +13,7 @@ use Rattle.asn1_schema.specs.declared.tables.Node.{Node}
 use Rattle.asn1_schema.specs.declared.tables.Node.TheVariants as type
 use Rattle.asn1_schema.specs.declared.misfit.MisfitKind.TheVariants as misfit
 use Rattle.asn1_schema.specs.Pieces.{Piece, Null, Truth, Integer, Enumerated, Bits, Octets, Text, Sequence, Count, Chosen, Additions, Unknown}
-use Rattle.asn1_schema.specs.Encodings.{Encoding, constant, anywhere, permitted}
+use Rattle.asn1_schema.specs.Encodings.{Encoding, constant, invalid, cases, anywhere, permitted}
 use Rattle.asn1_schema.specs.Fields.{raw_bits}
 use Rattle.asn1_schema.specs.TypeEncodings.{TypeEncoding, AfterHeader, nothing, leaf, part, header, both, put, except_type, either_by_bit}
 use Rattle.asn1_schema.specs.Laws.PhaseLaws.{Shifts, Agree, TypesAgree, AfterAgree, anywhere_agrees, in_turn_agrees, permitted_agrees, nothing_agrees, both_agree, several_agree, part_agrees, leaf_agrees, put_agrees, header_agrees, except_type_agrees, several_by_bits_agree, end_agrees, mandatory_agrees, optional_agrees, only_where_agrees, either_by_bit_agrees, enclosed_agrees}
@@ -22,15 +22,16 @@ use Rattle.asn1_schema.specs.Reals.{IsReal}
 use Rattle.asn1_x691.specs.declared.fault.FaultKind.{FaultKind}
 use Rattle.asn1_x691.specs.declared.fault.FaultKind.TheVariants.{Short, NoNode, NoAddition, BelowLeast, InRoot, NotTrimmed, Contents, DefaultValue, NotAscending, Unsupported}
 use Rattle.asn1_x691.specs.Fields.{phase, constrained, length_of, small_length, semi_constrained, small_number, unconstrained}
-use Rattle.asn1_x691.specs.Fragments.{octets}
-use Rattle.asn1_x691.specs.Strings.{bit, IsOfRoot, IsAddedSize, string_of, added_string}
+use Rattle.asn1_x691.specs.Fragments.{all_units, octets}
+use Rattle.asn1_x691.specs.Strings.{bit, where_size, IsOfRoot, IsAddedSize, string_of, added_string}
 use Rattle.asn1_x691.specs.Characters.{text_of, added_text, IsAddedText}
 use Rattle.asn1_x691.specs.Contents.{IsObjectIdentifier, IsRelativeIdentifier, IsUtf8Text}
 use Rattle.asn1_x691.specs.OpenTypes.{complete, enclosing, open_type}
+use Rattle.asn1_x691.specs.Lists.{list_where}
 use Rattle.asn1_x691.specs.Limits.{Limits, IsOffOctet}
 use Rattle.asn1_x691.specs.Leaves.{by_extension_bit, from_least, IsBetween, IsOutside, IsAddedInteger, value_of_addition, IsAddedValue, AreAddedBits, AreAddedOctets, AreTrimmed, integer_between, integer_at_least, extensible_integer, integer_between_by, integer_at_least_by, enumerated, enumerated_by, string_by, bits_by, bit_string, octet_string, text, contents, visible, time}
-use Rattle.asn1_x691.specs.Types.{no_node, alternative_of_addition, IsAddedAlternative, IsMisplaced, optional_count, count_from, IsAddedCount, length_at_least, added_length, any_true, value_by, component_by, component, components, root_of, sequence, known_addition, addition, additions_by_bits, some_additions, extension, IsExtended, sequence_by, in_order, items, sequence_of, sequence_of_by, alternative_if, choice, added, choice_extension, choice_by, type_of, type_at}
-use Rattle.asn1_x691.specs.Laws.PhaseLaws.{shifts, constrained_follows, length_follows, small_length_follows, semi_constrained_follows, unconstrained_follows, small_number_follows, octets_follow, string_of_follows, added_string_follows, text_of_follows, added_text_follows}
+use Rattle.asn1_x691.specs.Types.{no_node, alternative_of_addition, IsAddedAlternative, IsMisplaced, optional_count, count_from, IsAddedCount, length_at_least, added_length, any_true, value_by, component_by, component, components, root_of, sequence, known_addition, addition, additions_by_bits, some_additions, extension, IsExtended, sequence_by, in_order, items, items_at_least, sequence_of, added_items, sequence_of_by, alternative_if, choice, added, choice_extension, choice_by, type_of, type_at}
+use Rattle.asn1_x691.specs.Laws.PhaseLaws.{shifts, constrained_follows, length_follows, small_length_follows, semi_constrained_follows, unconstrained_follows, small_number_follows, all_units_follow, octets_follow, string_of_follows, added_string_follows, text_of_follows, added_text_follows}
 
 abbrev pub TypeFollows : Bool → (ℕ → TypeEncoding FaultKind) → Type 0
 TypeFollows aligned A = TypesAgree (phase aligned) A
@@ -254,28 +255,47 @@ module _ (limits : Limits) (aligned : Bool) (E : ℕ → ℕ → TypeEncoding Fa
   items_follow true item n =
       several_by_bits_agree Ph (in_order limits aligned E members ranges defaults node item) (λ before. in_order_follows item before) [] n
 
+  list_follows : (item : ℕ) (Yes No : ℕ → Type 0) (kind : FaultKind)
+      → TypeFollows aligned (list_where (items limits aligned E members ranges defaults node false item) aligned node limits.item_fragments Yes No kind)
+  list_follows item Yes No kind =
+      let I = λ (n at : ℕ). (items limits aligned E members ranges defaults node false item n at).encoding in
+      in_turn_agrees Ph (all_units I (λ xs ys. xs ++ ys) aligned node limits.item_fragments) (λ v ts. ts)
+      (λ v. where_size Yes No kind node (v.0, Count v.0 ∷ v.1))
+      (all_units_follow aligned node I (λ xs ys. xs ++ ys) (λ n. items_follow false item n) limits.item_fragments)
+      (λ v. anywhere_agrees Ph (cases (Yes v.0) (constant (Count v.0 ∷ v.1)) (No v.0) (invalid kind node)))
+
+  items_at_least_follow : (is_set : Bool) (least item : ℕ)
+      → TypeFollows aligned (items_at_least limits aligned E members ranges defaults node is_set least item)
+  items_at_least_follow false least item = list_follows item (λ n. least ≤ n) (λ n. n < least) BelowLeast
+  items_at_least_follow true least item =
+      part_agrees Ph (length_at_least aligned least node) Count
+      (λ n. items limits aligned E members ranges defaults node true item n) node
+      (permitted_agrees Ph (λ n. least ≤ n) (λ n. n < least) BelowLeast node (length_of aligned node) (length_follows aligned node))
+      (λ n. items_follow true item n)
+
   sequence_of_follows : (is_set : Bool) (size : Length) (item : ℕ)
       → TypeFollows aligned (sequence_of limits aligned E members ranges defaults node is_set size item)
-  sequence_of_follows is_set (AtLeast least) item =
-      part_agrees Ph (length_at_least aligned least node) Count
-      (λ n. items limits aligned E members ranges defaults node is_set item n) node
-      (permitted_agrees Ph (λ n. least ≤ n) (λ n. n < least) BelowLeast node (length_of aligned node) (length_follows aligned node))
-      (λ n. items_follow is_set item n)
+  sequence_of_follows is_set (AtLeast least) item = items_at_least_follow is_set least item
   sequence_of_follows is_set (Between least range) item =
       part_agrees Ph (constrained aligned range node) (count_from least)
       (λ d. items limits aligned E members ranges defaults node is_set item (least + d)) node (constrained_follows aligned range node)
       (λ d. items_follow is_set item (least + d))
 
+  added_items_follow : (is_set : Bool) (size : Length) (item : ℕ)
+      → TypeFollows aligned (added_items limits aligned E members ranges defaults node is_set size item)
+  added_items_follow false size item = list_follows item (IsAddedSize size) (IsOfRoot size) InRoot
+  added_items_follow true size item =
+      part_agrees Ph (added_length aligned size node) Count (λ n. items limits aligned E members ranges defaults node true item n) node
+      (permitted_agrees Ph (IsAddedSize size) (IsOfRoot size) InRoot node (length_of aligned node) (length_follows aligned node))
+      (λ n. items_follow true item n)
+
   sequence_of_by_follows : (b is_set : Bool) (size : Length) (item : ℕ)
       → TypeFollows aligned (sequence_of_by limits aligned E members ranges defaults node b is_set size item)
   sequence_of_by_follows false is_set size item = sequence_of_follows is_set size item
   sequence_of_by_follows true is_set size item =
-      let L = λ (n : ℕ). items limits aligned E members ranges defaults node is_set item n in
       by_bit_follows aligned node (IsAddedCount size) (sequence_of limits aligned E members ranges defaults node is_set size item)
-      (part (added_length aligned size node) Count L node) (sequence_of_follows is_set size item)
-      (part_agrees Ph (added_length aligned size node) Count L node
-      (permitted_agrees Ph (IsAddedSize size) (IsOfRoot size) InRoot node (length_of aligned node) (length_follows aligned node))
-      (λ n. items_follow is_set item n))
+      (added_items limits aligned E members ranges defaults node is_set size item) (sequence_of_follows is_set size item)
+      (added_items_follow is_set size item)
 
   alternative_follows : (b : Bool) (m : Option Member)
       → TypeFollows aligned (alternative_if limits aligned E members ranges defaults node b m)

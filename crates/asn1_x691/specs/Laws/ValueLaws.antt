@@ -1,5 +1,5 @@
 -- The parts of each value of a type are one value.
-use Rattle.std.proofs.Common.{◌≡◌, ℕ, ℤ, zero, suc, ◌+◌, ◌-◌, nat_lt, Bool, true, false, List, [], length, refl, Option, Some, None}
+use Rattle.std.proofs.Common.{◌≡◌, ℕ, ℤ, zero, suc, ◌+◌, ◌-◌, ◌*◌, ◌/◌, ◌%◌, ◌<◌, ◌≤◌, nat_lt, Bool, true, false, List, [], length, refl, arith, Option, Some, None}
 use Rattle.std.specs.Prelude.{slice_get, slice_range}
 use Rattle.asn1_schema.specs.declared.tables.Length.{Length}
 use Rattle.asn1_schema.specs.declared.tables.Length.TheVariants.{AtLeast, Between}
@@ -17,19 +17,22 @@ use Rattle.asn1_schema.specs.Fields.{raw_bits}
 use Rattle.asn1_schema.specs.TypeEncodings.{TypeEncoding, AfterHeader, nothing, header, both, put, part, leaf, either_by_bit}
 use Rattle.asn1_schema.specs.Times.{IsTime}
 use Rattle.asn1_schema.specs.Reals.{IsReal}
-use Rattle.asn1_schema.specs.Values.{held_by, AreValues}
-use Rattle.asn1_schema.specs.Laws.ValueLaws.{GivesValues, GivesAfter, as_many, same_parts, nothing_gives, invalid_gives, both_gives, several_gives, part_gives, leaf_gives, put_gives, header_gives, except_gives, several_by_bits_gives, end_gives, mandatory_gives, optional_gives, only_where_gives, either_gives, enclosed_gives}
+use Rattle.asn1_schema.specs.Values.{held_by, AreValues, none}
+use Rattle.asn1_schema.specs.Laws.ValueLaws.{GivesValues, GivesAfter, as_many, one_value, same_parts, nothing_gives, invalid_gives, both_gives, several_gives, part_gives, leaf_gives, put_gives, header_gives, except_gives, several_by_bits_gives, end_gives, mandatory_gives, optional_gives, only_where_gives, either_gives, enclosed_gives}
 use Rattle.asn1_x691.specs.declared.fault.FaultKind.{FaultKind}
-use Rattle.asn1_x691.specs.declared.fault.FaultKind.TheVariants.{Short, NoNode, TooDeep, NoAddition, DefaultValue, NotAscending, Unsupported, InRoot, Contents}
+use Rattle.asn1_x691.specs.declared.fault.FaultKind.TheVariants.{Short, BelowLeast, NoNode, TooDeep, NoAddition, DefaultValue, NotAscending, Unsupported, InRoot, Contents}
 use Rattle.asn1_x691.specs.Fields.{phase, constrained, semi_constrained, unconstrained, small_length, small_number}
-use Rattle.asn1_x691.specs.Strings.{bit, string_of, added_string}
+use Rattle.asn1_x691.specs.Strings.{bit, string_of, added_string, IsOfRoot, IsAddedSize}
 use Rattle.asn1_x691.specs.Characters.{text_of, added_text, IsAddedText}
 use Rattle.asn1_x691.specs.Fragments.{octets}
 use Rattle.asn1_x691.specs.Limits.{Limits, IsOffOctet}
+use Rattle.asn1_x691.specs.Lists.{number_of_units, fragment_then, items_below, whole_fragments_then, items_in_fragments, list_where}
+use Rattle.asn1_x691.specs.Laws.ListLaws.{number_told}
+use Rattle.asn1_x691.specs.Laws.ListTypeLaws.{list_told}
 use Rattle.asn1_x691.specs.OpenTypes.{complete, enclosing, open_type}
 use Rattle.asn1_x691.specs.Contents.{IsObjectIdentifier, IsRelativeIdentifier, IsUtf8Text}
 use Rattle.asn1_x691.specs.Leaves.{by_extension_bit, from_least, IsBetween, IsOutside, IsAddedInteger, added_value, value_of_addition, IsAddedValue, AreAddedBits, AreAddedOctets, integer_between, integer_at_least, integer, extensible_integer, integer_between_by, integer_at_least_by, enumerated, enumerated_by, string_by, bits_by, bit_string, octet_string, text, contents, visible, time}
-use Rattle.asn1_x691.specs.Types.{no_node, added_alternative, alternative_of_addition, IsAddedAlternative, optional_count, IsMisplaced, count_from, IsAddedCount, length_at_least, added_length, any_true, value_by, component_by, no_component, component, components, root_of, sequence, known_addition, addition, additions_by_bits, some_additions, extension, IsExtended, extensible_sequence, sequence_by, in_order, items, sequence_of, sequence_of_by, alternative, alternative_if, choice, added, choice_extension, choice_by, type_of, type_at}
+use Rattle.asn1_x691.specs.Types.{no_node, added_alternative, alternative_of_addition, IsAddedAlternative, optional_count, IsMisplaced, count_from, IsAddedCount, length_at_least, added_length, any_true, value_by, component_by, no_component, component, components, root_of, sequence, known_addition, addition, additions_by_bits, some_additions, extension, IsExtended, extensible_sequence, sequence_by, in_order, items, items_at_least, sequence_of, added_items, sequence_of_by, alternative, alternative_if, choice, added, choice_extension, choice_by, type_of, type_at}
 
 -- a root or an extension, as a bit tells
 extension_bit_gives : (node n : ℕ) (Added : Piece → Type 0) (A B : ℕ → TypeEncoding FaultKind) → GivesValues n A → GivesValues n B
@@ -87,6 +90,44 @@ module _ (aligned : Bool) (node : ℕ) where
 pub complete_gives : (node : ℕ) (A : ℕ → TypeEncoding FaultKind) → GivesValues 1 A → (parts : Parts) (list : List Bool)
     → (complete node A).fills parts list → AreValues 1 parts
 complete_gives node A a parts list p = same_parts p.is (a 0 p.value.0 p.front p.first.0)
+
+-- ---- lists of any number of items
+
+module _ (A : ℕ → ℕ → TypeEncoding FaultKind) (aligned : Bool) (node : ℕ) (a : (n : ℕ) → GivesValues n (A n)) where
+  number_gives : (n : ℕ) → GivesValues 0 (number_of_units A aligned node n)
+  number_gives n at parts list p = same_parts (number_told A aligned node n at parts list p).0 none
+
+  fragment_gives : (n m : ℕ) (R : ℕ → TypeEncoding FaultKind) → GivesValues m R → GivesValues (n + m) (fragment_then A aligned node n R)
+  fragment_gives n m R r at parts list p =
+      as_many (omega arith)
+      (both_gives (number_of_units A aligned node n) (both (A n) R) 0 (n + m) (number_gives n) (both_gives (A n) R n m (a n) r) at parts list p)
+
+  below_gives : (b : Bool) (n : ℕ) → GivesValues n (items_below A aligned node b n)
+  below_gives true n at parts list p =
+      as_many (omega arith) (fragment_gives n 0 nothing (nothing_gives FaultKind) at parts list p)
+  below_gives false n at parts list p =
+      let r = n % 16384 in
+      as_many (omega arith)
+      (fragment_gives (16384 * (n / 16384)) (r + 0) (fragment_then A aligned node r nothing)
+      (fragment_gives r 0 nothing (nothing_gives FaultKind)) at parts list p)
+
+  whole_gives : (k n : ℕ) (R : ℕ → TypeEncoding FaultKind) → GivesValues n R
+      → GivesValues (65536 * k + n) (whole_fragments_then A aligned node k R)
+  whole_gives zero n R r at parts list p = as_many (omega arith) (r at parts list p)
+  whole_gives (suc k) n R r at parts list p =
+      as_many (omega arith)
+      (fragment_gives 65536 (65536 * k + n) (whole_fragments_then A aligned node k R) (whole_gives k n R r) at parts list p)
+
+  fragments_give : (n : ℕ) → GivesValues n (items_in_fragments A aligned node n)
+  fragments_give n at parts list p =
+      as_many (omega arith)
+      (whole_gives (n / 65536) (n % 65536) (items_below A aligned node (nat_lt (n % 65536) 16384) (n % 65536))
+      (below_gives (nat_lt (n % 65536) 16384) (n % 65536)) at parts list p)
+
+  list_gives : (most : ℕ) (Yes No : ℕ → Type 0) (kind : FaultKind) → GivesValues 1 (list_where A aligned node most Yes No kind)
+  list_gives most Yes No kind at parts list p =
+      let t = list_told A aligned node most Yes No kind at parts list p in
+      same_parts t.are (one_value (Count t.count) t.items (fragments_give t.count at t.items list t.encodes))
 
 -- ---- all types
 
@@ -176,24 +217,38 @@ module _ (limits : Limits) (aligned : Bool) (E : ℕ → ℕ → TypeEncoding Fa
   items_give true item n =
       several_by_bits_gives (in_order limits aligned E members ranges defaults node item) (in_order_gives item) n []
 
+  at_least_gives : (is_set : Bool) (least item : ℕ)
+      → GivesValues 1 (items_at_least limits aligned E members ranges defaults node is_set least item)
+  at_least_gives false least item =
+      list_gives (items limits aligned E members ranges defaults node false item) aligned node (λ n. items_give false item n)
+      limits.item_fragments (λ n. least ≤ n) (λ n. n < least) BelowLeast
+  at_least_gives true least item =
+      part_gives (length_at_least aligned least node) Count (λ n. items limits aligned E members ranges defaults node true item n) node
+      (λ n. items_give true item n)
+
   sequence_of_gives : (is_set : Bool) (size : Length) (item : ℕ)
       → GivesValues 1 (sequence_of limits aligned E members ranges defaults node is_set size item)
-  sequence_of_gives is_set (AtLeast least) item =
-      part_gives (length_at_least aligned least node) Count (λ n. items limits aligned E members ranges defaults node is_set item n) node
-      (λ n. items_give is_set item n)
+  sequence_of_gives is_set (AtLeast least) item = at_least_gives is_set least item
   sequence_of_gives is_set (Between least range) item =
       part_gives (constrained aligned range node) (count_from least)
       (λ d. items limits aligned E members ranges defaults node is_set item (least + d)) node (λ d. items_give is_set item (least + d))
+
+  added_items_give : (is_set : Bool) (size : Length) (item : ℕ)
+      → GivesValues 1 (added_items limits aligned E members ranges defaults node is_set size item)
+  added_items_give false size item =
+      list_gives (items limits aligned E members ranges defaults node false item) aligned node (λ n. items_give false item n)
+      limits.item_fragments (IsAddedSize size) (IsOfRoot size) InRoot
+  added_items_give true size item =
+      part_gives (added_length aligned size node) Count (λ n. items limits aligned E members ranges defaults node true item n) node
+      (λ n. items_give true item n)
 
   sequence_of_by_gives : (b is_set : Bool) (size : Length) (item : ℕ)
       → GivesValues 1 (sequence_of_by limits aligned E members ranges defaults node b is_set size item)
   sequence_of_by_gives false is_set size item = sequence_of_gives is_set size item
   sequence_of_by_gives true is_set size item =
       extension_bit_gives node 1 (IsAddedCount size) (sequence_of limits aligned E members ranges defaults node is_set size item)
-      (part (added_length aligned size node) Count (λ n. items limits aligned E members ranges defaults node is_set item n) node)
-      (sequence_of_gives is_set size item)
-      (part_gives (added_length aligned size node) Count (λ n. items limits aligned E members ranges defaults node is_set item n) node
-      (λ n. items_give is_set item n))
+      (added_items limits aligned E members ranges defaults node is_set size item) (sequence_of_gives is_set size item)
+      (added_items_give is_set size item)
 
   alternative_gives : (m : Option Member) → GivesValues 1 (alternative limits aligned E members ranges defaults node m)
   alternative_gives None = invalid_gives 1 NoNode misfit.NoNode node
