@@ -18,7 +18,7 @@ use Rattle.asn1_x691.specs.Types.{alternative_if, added, added_alternative, alte
 use Rattle.asn1_x691_fields.specs.declared.state.State.{State}
 use Rattle.asn1_x691_fields.specs.Outcomes.{rest, position, IsWithin, IsOnward}
 use Rattle.asn1_x691_decode.specs.declared.context.Context.{Context}
-use Rattle.asn1_x691_decode.specs.Room.{IsGrown}
+use Rattle.asn1_schema.specs.Room.{IsGrown}
 use Rattle.asn1_x691_decode.specs.Decoding.{types, decoder_limits, defaults_in, choice_in, alternatives_in, choice_extension_in, known_in}
 use Rattle.asn1_x691_decode.proofs.Steps.{IsUnderway, IsSamePlace, header_step, part_step}
 

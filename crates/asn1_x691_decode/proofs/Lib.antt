@@ -5,5 +5,6 @@ pub mod OpenSteps
 mod SequenceSteps
 mod SetSteps
 mod ChoiceSteps
+mod FragmentSteps
 mod ListSteps
 mod MessageSteps

@@ -13,7 +13,7 @@ use Rattle.asn1_x691.specs.Laws.ValueLaws.{value_at, complete_gives}
 use Rattle.asn1_x691_fields.specs.declared.state.State.{State}
 use Rattle.asn1_x691_fields.specs.Outcomes.{rest, position, fault_of, IsWithin, IsMoved}
 use Rattle.asn1_x691_decode.specs.declared.context.Context.{Context}
-use Rattle.asn1_x691_decode.specs.Room.{Holds}
+use Rattle.asn1_schema.specs.Room.{Holds}
 use Rattle.asn1_x691_decode.specs.Decoding.{IsDecoded, IsFilled, types, decoder_limits, defaults_in}
 use Rattle.asn1_x691_decode.specs.Messages.{named, IsComplete, IsFirstFault, IsPrefix, IsFirstFaultOfPrefix}
 

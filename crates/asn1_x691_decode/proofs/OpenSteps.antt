@@ -16,7 +16,7 @@ use Rattle.asn1_x691_fields.specs.declared.state.State.{State}
 use Rattle.asn1_x691_fields.specs.Outcomes.{rest, position, fault_of, IsWithin, IsMoved, IsOnward}
 use Rattle.asn1_x691_fields.specs.Steps.{rest_length, step_position, turn_starts, constant_starts}
 use Rattle.asn1_x691_decode.specs.declared.context.Context.{Context}
-use Rattle.asn1_x691_decode.specs.Room.{IsGrown}
+use Rattle.asn1_schema.specs.Room.{IsGrown}
 use Rattle.asn1_x691_decode.specs.Decoding.{OutcomeOfContents, IsDecoded, IsFilled, IsEnd}
 
 -- ---- zeros at the end

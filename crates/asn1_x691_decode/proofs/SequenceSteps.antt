@@ -15,7 +15,7 @@ use Rattle.asn1_x691.specs.Types.{some_additions, any_true}
 use Rattle.asn1_x691_fields.specs.declared.state.State.{State}
 use Rattle.asn1_x691_fields.specs.Outcomes.{rest, position, IsWithin, IsMoved, IsOnward}
 use Rattle.asn1_x691_decode.specs.declared.context.Context.{Context}
-use Rattle.asn1_x691_decode.specs.Room.{IsGrown}
+use Rattle.asn1_schema.specs.Room.{IsGrown}
 use Rattle.asn1_x691_decode.specs.Decoding.{IsDecoded, types, decoder_limits, defaults_in, sequence_in, root_in, extension_in, addition_in, additions_in, by_presence, bits_after_one}
 use Rattle.asn1_x691_decode.proofs.Steps.{IsUnderway, IsSamePlace, header_step, part_step, put_step, value_step, first_case, nothing_decoded}
 

@@ -20,7 +20,8 @@ use Rattle.asn1_x691_fields.specs.declared.state.State.{State}
 use Rattle.asn1_x691_fields.specs.Outcomes.{rest, position, fault_of, IsWithin, IsMoved, IsOnward, IsRead}
 use Rattle.asn1_x691_fields.specs.Steps.{constant_starts, after_starts, after_fault, moved_on}
 use Rattle.asn1_x691_decode.specs.declared.context.Context.{Context}
-use Rattle.asn1_x691_decode.specs.Room.{Holds, IsGrown, IsKept}
+use Rattle.asn1_schema.specs.Room.{Holds, IsGrown}
+use Rattle.asn1_x691_decode.specs.Room.{IsKept}
 use Rattle.asn1_x691_decode.specs.Decoding.{Outcome, decoder_limits, defaults_in, IsDecoded, types, type_in, value_in, components_in, component_in, bits_after, bits_after_one}
 
 -- ---- parts that follow others

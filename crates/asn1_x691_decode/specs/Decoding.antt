@@ -1,5 +1,5 @@
 -- What a decoder did: the parts that it found, or the first fault.
-use Rattle.std.specs.Prelude.{◌≡◌, ℕ, ◌+◌, ◌-◌, ◌*◌, ◌<◌, ◌≤◌, ◌⊎◌, Bool, true, false, List, [], ◌∷◌, length, Option, Some, None}
+use Rattle.std.specs.Prelude.{◌≡◌, ℕ, ◌+◌, ◌-◌, ◌*◌, ◌<◌, ◌≤◌, ◌⊎◌, Bool, true, false, List, [], ◌∷◌, ◌++◌, length, Option, Some, None}
 use Rattle.asn1_bits.specs.Bits.{bits}
 use Rattle.asn1_schema.specs.declared.part.Natural.{Natural}
 use Rattle.asn1_schema.specs.declared.part.Span.{Span}
@@ -14,25 +14,31 @@ use Rattle.asn1_schema.specs.declared.tables.Range.{Range}
 use Rattle.asn1_schema.specs.Pieces.{Absent, Count, Parts}
 use Rattle.asn1_schema.specs.PiecesOfParts.{bits_at, bits_of, natural_of}
 use Rattle.asn1_schema.specs.Encodings.{Encoding, Contents, Starts, constant, invalid}
-use Rattle.asn1_schema.specs.TypeEncodings.{TypeEncoding, AfterHeader, several, several_by_bits, part}
+use Rattle.asn1_schema.specs.TypeEncodings.{TypeEncoding, AfterHeader, several, several_by_bits}
 use Rattle.asn1_x691.specs.declared.fault.FaultKind.{FaultKind}
 use Rattle.asn1_x691.specs.declared.fault.FaultKind.TheVariants.{NoNode}
 use Rattle.asn1_x691.specs.OpenTypes.{padding, complete, open_type}
-use Rattle.asn1_x691.specs.Fragments.{most_fragments}
+use Rattle.asn1_x691.specs.Fragments.{most_fragments, units_below}
+use Rattle.asn1_x691.specs.Lists.{numbered_items}
 use Rattle.asn1_x691.specs.Limits.{Limits}
-use Rattle.asn1_x691.specs.Types.{type_at, type_of, value_by, components, root_of, sequence_by, extension, addition, additions_by_bits, known_addition, sequence_of_by, sequence_of, added_length, in_order, items, choice, choice_by, choice_extension}
+use Rattle.asn1_x691.specs.Types.{type_at, type_of, value_by, components, root_of, sequence_by, extension, addition, additions_by_bits, known_addition, sequence_of_by, sequence_of, items_at_least, added_items, in_order, items, choice, choice_by, choice_extension}
 use Rattle.asn1_x691_fields.specs.declared.state.State.{State}
 use Rattle.asn1_x691_fields.specs.Defaults.{default_in}
 use Rattle.asn1_x691_fields.specs.Outcomes.{rest, position, fault_of}
 use Rattle.asn1_x691_decode.specs.declared.context.Context.{Context}
 use Rattle.asn1_x691_decode.specs.declared.presence.PresenceBits.{PresenceBits}
-use Rattle.asn1_x691_decode.specs.Room.{IsGrown}
+use Rattle.asn1_schema.specs.Room.{IsGrown}
 
 -- ---- a schema
 
--- the limits of the decoder: fragments of an OCTET STRING alone, and items of a SET OF that begin at octets in the ALIGNED variant
+-- in so many fragments of 65,536 the items of a SEQUENCE OF are decoded: up to 2^48 items
+unfoldable pub most_item_fragments : ℕ
+most_item_fragments = 4294967296
+
+-- the limits of the decoder: fragments of an OCTET STRING and of a SEQUENCE OF alone, and items of a SET OF that begin at octets in the
+-- ALIGNED variant
 abbrev pub decoder_limits : Limits
-decoder_limits = record { octet_fragments = most_fragments; fragments = 0; sets_on_octets = true }
+decoder_limits = record { octet_fragments = most_fragments; fragments = 0; item_fragments = most_item_fragments; sets_on_octets = true }
 
 -- the bits that encode a default value after so many bits of an octet
 abbrev pub defaults_in : Context → ℕ → ℕ → Option (List Bool)
@@ -56,6 +62,28 @@ abbrev pub Outcome : Context → (ℕ → Encoding FaultKind Parts) → State �
 Outcome c A old new was now true = IsDecoded c.tables.ranges.now (A (position old)).encodes (bits c.octets.now) old new was now
 Outcome c A old new was now false =
     (A (position old)).fault (rest (bits c.octets.now) old) (fault_of new)
+
+-- items were found, of which the bits from the old index to the new one are an encoding, with so many as their number
+pub record AreDecoded (ranges : List Range) (P : ℕ × Parts → List Bool → Type 0) (list : List Bool) (old new : State) (was now : List Part)
+    (count : ℕ) : Type 0 where
+  pub items : Parts
+  pub starts : Starts P (rest list old) (count, items) (rest list new)
+  pub grown : IsGrown ranges list was old.count now new.count items
+
+-- the same with the part that tells their number
+pub record AreListed (ranges : List Range) (P : ℕ × Parts → List Bool → Type 0) (list : List Bool) (old new : State) (was now : List Part)
+    (count : ℕ) : Type 0 where
+  pub items : Parts
+  pub starts : Starts P (rest list old) (count, items) (rest list new)
+  pub grown : IsGrown ranges list was old.count now new.count (Count count ∷ items)
+
+abbrev pub OutcomeOfItems : Context → (ℕ → Encoding FaultKind (ℕ × Parts)) → State → State → List Part → List Part → Option ℕ → Type 0
+OutcomeOfItems c A old new was now (Some n) = AreDecoded c.tables.ranges.now (A (position old)).encodes (bits c.octets.now) old new was now n
+OutcomeOfItems c A old new was now None = (A (position old)).fault (rest (bits c.octets.now) old) (fault_of new)
+
+abbrev pub OutcomeOfList : Context → (ℕ → Encoding FaultKind (ℕ × Parts)) → State → State → List Part → List Part → Option ℕ → Type 0
+OutcomeOfList c A old new was now (Some n) = AreListed c.tables.ranges.now (A (position old)).encodes (bits c.octets.now) old new was now n
+OutcomeOfList c A old new was now None = (A (position old)).fault (rest (bits c.octets.now) old) (fault_of new)
 
 -- the same of contents, which end where the complete encoding does
 pub record IsFilled (ranges : List Range) (P : Parts → List Bool → Type 0) (list : List Bool) (old new : State) (was now : List Part) : Type 0 where
@@ -123,8 +151,19 @@ module _ (c : Context) (depth node : ℕ) where
   abbrev pub all_items_in : Bool → ℕ → ℕ → ℕ → TypeEncoding FaultKind
   all_items_in = items decoder_limits c.is_aligned (types c depth) c.tables.members.now c.tables.ranges.now defaults node
 
+  abbrev pub at_least_in : Bool → ℕ → ℕ → ℕ → TypeEncoding FaultKind
+  at_least_in = items_at_least decoder_limits c.is_aligned (types c depth) c.tables.members.now c.tables.ranges.now defaults node
+
   abbrev pub added_list_in : Bool → Length → ℕ → ℕ → TypeEncoding FaultKind
-  added_list_in is_set size item = part (added_length c.is_aligned size node) Count (λ n. all_items_in is_set item n) node
+  added_list_in = added_items decoder_limits c.is_aligned (types c depth) c.tables.members.now c.tables.ranges.now defaults node
+
+  -- items after their number, in so many fragments at most; and the last ones, where a fragment has a fault of a kind
+  abbrev pub numbered_in : ℕ → ℕ → ℕ → Encoding FaultKind (ℕ × Parts)
+  numbered_in item most = numbered_items (λ n. several (types c depth item) n) c.is_aligned node most
+
+  abbrev pub last_items_in : ℕ → FaultKind → ℕ → Encoding FaultKind (ℕ × Parts)
+  last_items_in item kind =
+      units_below (λ n at. (several (types c depth item) n at).encoding) (λ xs ys. xs ++ ys) c.is_aligned node kind
 
   -- an item that is not before the one of these bits, and so many of them
   abbrev pub in_order_in : ℕ → List Bool → ℕ → TypeEncoding FaultKind

@@ -13,7 +13,7 @@ use Rattle.asn1_x691.specs.Types.{type_at}
 use Rattle.asn1_x691_decode.specs.declared.context.Context.{Context}
 use Rattle.asn1_x691_decode.specs.declared.message.Fault.{Fault as FoundFault}
 use Rattle.asn1_x691_decode.specs.declared.message.Prefix.{Prefix}
-use Rattle.asn1_x691_decode.specs.Room.{Holds}
+use Rattle.asn1_schema.specs.Room.{Holds}
 use Rattle.asn1_x691_decode.specs.Decoding.{defaults_in, types}
 
 module _ (c : Context) where

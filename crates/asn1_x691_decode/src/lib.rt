@@ -7,6 +7,7 @@ mod compare;
 mod complete;
 mod context;
 mod decoder;
+mod fragments;
 mod laws;
 mod leaves;
 mod list;

@@ -3,15 +3,17 @@
 ghost use Rattle.std.specs.Prelude.{◌≡◌, ◌<◌, ◌^◌, ◌*◌, ◌+◌, length, true, false};
 ghost use Rattle.asn1_bits.specs.Bits.{bits};
 ghost use Rattle.asn1_x691_fields.specs.Outcomes.{IsWithin, IsMoved, IsPlaced};
-ghost use Rattle.asn1_x691_decode.specs.Decoding.{Outcome, sequence_of_in, root_list_in, added_list_in, all_items_in, items_in};
+ghost use Rattle.asn1_x691_decode.specs.Decoding.{Outcome, sequence_of_in, root_list_in, at_least_in, added_list_in, all_items_in, items_in};
 
 use crate::context::Context;
 use crate::decoder::decode_node;
+use crate::fragments::decode_numbered_list;
 use crate::room::push;
 use crate::set::decode_set_items;
 use asn1_schema::{Length, Part};
+use asn1_x691::FaultKind;
 use asn1_x691_fields::{
-    State, next_added_length, next_bit, next_constrained, next_length_at_least,
+    State, fail, is_of_root, next_added_length, next_bit, next_constrained, next_length_at_least,
 };
 
 /// Decodes a SEQUENCE OF, or a SET OF.
@@ -65,19 +67,12 @@ fn decode_root_list(
         state.old state.new parts.old parts.new result }
 {
     match size {
-        Length::AtLeast { least } => match next_length_at_least(
-            context.octets,
-            context.is_aligned,
-            least,
-            node,
-            state,
-        ) {
-            None => false,
-            Some(count) => {
-                push(parts, state, Part::Count(count));
-                decode_each(context, depth, node, is_set, item, count, state, parts)
+        Length::AtLeast { least } => {
+            if is_set {
+                return decode_set_at_least(context, depth, node, least, item, state, parts);
             }
-        },
+            decode_at_least(context, depth, node, least, item, state, parts)
+        }
         Length::Between { least, range } => {
             match next_constrained(
                 context.octets,
@@ -95,6 +90,62 @@ fn decode_root_list(
             }
         }
     }
+}
+
+/// Decodes the items of a SEQUENCE OF that has no upper bound.
+#[cycle(decoding)]
+fn decode_at_least(
+    context: &Context<'_>,
+    depth: usize,
+    node: usize,
+    least: usize,
+    item: usize,
+    state: &mut State,
+    parts: &mut [Part],
+) -> bool
+    requires size { 8 * length context.now.octets.now < 2 ^ 64 }
+    requires within { IsWithin (bits context.now.octets.now) state.old }
+    requires placed { IsPlaced context.now.is_aligned state.old }
+    ensures moved { IsMoved (bits context.now.octets.now) state.old state.new }
+    ensures did { Outcome context.now (λ at. (at_least_in context.now depth node false least item at).encoding)
+        state.old state.new parts.old parts.new result }
+{
+    let first = state.count;
+    let Some(count) = decode_numbered_list(context, depth, node, item, state, parts) else {
+        return false;
+    };
+    if count < least {
+        state.count = first;
+        fail(state, node, FaultKind::BelowLeast);
+        return false;
+    }
+    true
+}
+
+/// Decodes the items of a SET OF that has no upper bound.
+#[cycle(decoding)]
+fn decode_set_at_least(
+    context: &Context<'_>,
+    depth: usize,
+    node: usize,
+    least: usize,
+    item: usize,
+    state: &mut State,
+    parts: &mut [Part],
+) -> bool
+    requires size { 8 * length context.now.octets.now < 2 ^ 64 }
+    requires within { IsWithin (bits context.now.octets.now) state.old }
+    requires placed { IsPlaced context.now.is_aligned state.old }
+    ensures moved { IsMoved (bits context.now.octets.now) state.old state.new }
+    ensures did { Outcome context.now (λ at. (at_least_in context.now depth node true least item at).encoding)
+        state.old state.new parts.old parts.new result }
+{
+    let Some(count) = next_length_at_least(context.octets, context.is_aligned, least, node, state)
+    else {
+        return false;
+    };
+    push(parts, state, Part::Count(count));
+    decode_each(context, depth, node, true, item, count, state, parts)
 }
 
 /// Decodes as many items as the size constraint does not permit (X.691 20.4).
@@ -116,13 +167,45 @@ fn decode_added_list(
     ensures did { Outcome context.now (λ at. (added_list_in context.now depth node is_set size item at).encoding)
         state.old state.new parts.old parts.new result }
 {
-    match next_added_length(context.octets, context.is_aligned, size, node, state) {
-        None => false,
-        Some(count) => {
-            push(parts, state, Part::Count(count));
-            decode_each(context, depth, node, is_set, item, count, state, parts)
-        }
+    if is_set {
+        return decode_added_set(context, depth, node, size, item, state, parts);
     }
+    let first = state.count;
+    let Some(count) = decode_numbered_list(context, depth, node, item, state, parts) else {
+        return false;
+    };
+    if is_of_root(size, count) {
+        state.count = first;
+        fail(state, node, FaultKind::InRoot);
+        return false;
+    }
+    true
+}
+
+/// Decodes as many items of a SET OF as the size constraint does not permit (X.691 20.4).
+#[cycle(decoding)]
+fn decode_added_set(
+    context: &Context<'_>,
+    depth: usize,
+    node: usize,
+    size: Length,
+    item: usize,
+    state: &mut State,
+    parts: &mut [Part],
+) -> bool
+    requires size { 8 * length context.now.octets.now < 2 ^ 64 }
+    requires within { IsWithin (bits context.now.octets.now) state.old }
+    requires placed { IsPlaced context.now.is_aligned state.old }
+    ensures moved { IsMoved (bits context.now.octets.now) state.old state.new }
+    ensures did { Outcome context.now (λ at. (added_list_in context.now depth node true size item at).encoding)
+        state.old state.new parts.old parts.new result }
+{
+    let Some(count) = next_added_length(context.octets, context.is_aligned, size, node, state)
+    else {
+        return false;
+    };
+    push(parts, state, Part::Count(count));
+    decode_each(context, depth, node, true, item, count, state, parts)
 }
 
 /// Decodes so many items of a SEQUENCE OF or of a SET OF.
@@ -152,7 +235,7 @@ fn decode_each(
 
 /// Decodes so many items of a SEQUENCE OF.
 #[cycle(decoding)]
-fn decode_items(
+pub(crate) fn decode_items(
     context: &Context<'_>,
     depth: usize,
     item: usize,

@@ -3,9 +3,10 @@
 ghost use Rattle.std.specs.Prelude.{◌≡◌, List, Bool, false, ◌∷◌, []};
 ghost use Rattle.asn1_schema.specs.declared.tables.Range.{Range};
 ghost use Rattle.asn1_schema.specs.PiecesOfParts.{piece_of};
-ghost use Rattle.asn1_x691_decode.specs.Room.{IsGrown, IsKept};
+ghost use Rattle.asn1_schema.specs.Room.{IsGrown};
+ghost use Rattle.asn1_x691_decode.specs.Room.{IsKept};
 
-use asn1_schema::Part;
+use asn1_schema::{Part, push_part};
 use asn1_x691_fields::State;
 
 /// Counts a part, and stores it where there is room.
@@ -17,13 +18,7 @@ pub(crate) fn push(parts: &mut [Part], state: &mut State, part: Part)
     ensures grown { (ranges : List Range) (list : List Bool) → IsGrown ranges list parts.old state.old.count parts.new state.new.count
         (piece_of ranges list part ∷ []) }
 {
-    let count = state.count;
-    if count < parts.len() {
-        parts[count] = part;
-        state.count = count + 1;
-        return;
-    }
-    state.count = count.saturating_add(1);
+    state.count = push_part(parts, state.count, part);
 }
 
 /// Stores a part that was read, if one was.

@@ -12,6 +12,7 @@ pub mod Messages
 -- What follows of steps of an encoder; no contract cites it.
 pub mod LeafSteps
 pub mod ListSteps
+pub mod FragmentSteps
 pub mod ExtensionSteps
 pub mod ChoiceSteps
 pub mod CompleteSteps

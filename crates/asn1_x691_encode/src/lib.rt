@@ -10,6 +10,7 @@ mod choice;
 mod contents;
 mod context;
 mod encoder;
+mod fragments;
 mod leaves;
 mod list;
 mod message;

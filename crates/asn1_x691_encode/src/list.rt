@@ -1,6 +1,6 @@
 //! SEQUENCE OF (X.691 20) and SET OF (X.691 22).
 
-ghost use Rattle.std.specs.Prelude.{Option, ◌≡◌, ℕ, Bool, List, ◌+◌, ◌-◌, ◌*◌, ◌^◌, ◌<◌, ◌≤◌, length, slice_get, Some, MatchOption};
+ghost use Rattle.std.specs.Prelude.{Option, ◌≡◌, ℕ, Bool, true, false, List, ◌+◌, ◌-◌, ◌*◌, ◌^◌, ◌<◌, ◌≤◌, length, slice_get, Some, MatchOption};
 ghost use Rattle.asn1_schema.specs.declared.tables.Range.{Range};
 ghost use Rattle.asn1_schema.specs.Pieces.{Count};
 ghost use Rattle.asn1_x691_writers.specs.Put.{piece_in};
@@ -13,6 +13,7 @@ ghost use Rattle.asn1_x691_encode.specs.Encoding.{Outcome, types, items_in, list
 
 use crate::context::{Context, part_at};
 use crate::encoder::encode_node;
+use crate::fragments::encode_numbered_items;
 use crate::set::encode_set_items;
 use asn1_schema::{Length, MisfitKind, Part};
 use asn1_x691_writers::{Writer, is_of_root, put_bit, put_constrained, put_length, reject};
@@ -91,9 +92,14 @@ fn encode_list_of(
     match count_of(part) {
         None => reject(state, node, MisfitKind::OtherPart),
         Some(count) => match size {
-            Length::AtLeast { least } => encode_at_least(
-                context, depth, node, least, is_set, item, count, octets, state,
-            ),
+            Length::AtLeast { least } => {
+                if is_set {
+                    return encode_set_at_least(
+                        context, depth, node, least, item, count, octets, state,
+                    );
+                }
+                encode_at_least(context, depth, node, least, item, count, octets, state)
+            }
             Length::Between { least, range } => {
                 encode_between(
                     context,
@@ -170,12 +176,39 @@ fn encode_added_list(
     ensures { Outcome context.now (added_list_in context.now depth node is_set size item) octets.old
         state.old octets.new state.new result }
 {
+    if is_set {
+        return encode_added_set(context, depth, node, size, item, count, octets, state);
+    }
+    state.next += 1;
+    encode_numbered_items(context, depth, node, item, count, octets, state)
+}
+
+/// Encodes a SET OF whose number of items is none of the root, after the extension bit.
+#[cycle(encoding)]
+fn encode_added_set(
+    context: &Context<'_>,
+    depth: usize,
+    node: usize,
+    size: Length,
+    item: usize,
+    count: usize,
+    octets: &mut [u8],
+    state: &mut Writer,
+) -> bool
+    requires size { 8 * length octets.old < 2 ^ 64 }
+    requires source { 8 * length context.now.source.now < 2 ^ 64 }
+    requires parts { length context.now.parts.now < 2 ^ 64 - 1 }
+    requires next { slice_get context.now.parts.now state.old.next ≡ Some (CountPart count) }
+    requires added { IsAddedSize size count }
+    ensures { Outcome context.now (added_list_in context.now depth node true size item) octets.old
+        state.old octets.new state.new result }
+{
     if count >= 16384 {
         return reject(state, node, MisfitKind::NoEncoding);
     }
     state.at = put_length(octets, state.at, context.is_aligned, count);
     state.next += 1;
-    encode_items_by(context, depth, node, is_set, item, count, octets, state)
+    encode_items_by(context, depth, node, true, item, count, octets, state)
 }
 
 /// Returns how many items follow a part, where the number is none of the root.
@@ -204,14 +237,13 @@ fn count_of(part: Part) -> Option<usize>
     }
 }
 
-/// Encodes a list after its length.
+/// Encodes a SEQUENCE OF that has no upper bound.
 #[cycle(encoding)]
 fn encode_at_least(
     context: &Context<'_>,
     depth: usize,
     node: usize,
     least: usize,
-    is_set: bool,
     item: usize,
     count: usize,
     octets: &mut [u8],
@@ -221,7 +253,33 @@ fn encode_at_least(
     requires source { 8 * length context.now.source.now < 2 ^ 64 }
     requires parts { length context.now.parts.now < 2 ^ 64 - 1 }
     requires next { slice_get context.now.parts.now state.old.next ≡ Some (CountPart count) }
-    ensures { Outcome context.now (list_in context.now depth node is_set (AtLeast least) item) octets.old
+    ensures { Outcome context.now (list_in context.now depth node false (AtLeast least) item) octets.old
+        state.old octets.new state.new result }
+{
+    if count < least {
+        return reject(state, node, MisfitKind::NoEncoding);
+    }
+    state.next += 1;
+    encode_numbered_items(context, depth, node, item, count, octets, state)
+}
+
+/// Encodes a SET OF that has no upper bound, after its length.
+#[cycle(encoding)]
+fn encode_set_at_least(
+    context: &Context<'_>,
+    depth: usize,
+    node: usize,
+    least: usize,
+    item: usize,
+    count: usize,
+    octets: &mut [u8],
+    state: &mut Writer,
+) -> bool
+    requires size { 8 * length octets.old < 2 ^ 64 }
+    requires source { 8 * length context.now.source.now < 2 ^ 64 }
+    requires parts { length context.now.parts.now < 2 ^ 64 - 1 }
+    requires next { slice_get context.now.parts.now state.old.next ≡ Some (CountPart count) }
+    ensures { Outcome context.now (list_in context.now depth node true (AtLeast least) item) octets.old
         state.old octets.new state.new result }
 {
     if count < least || count >= 16384 {
@@ -229,7 +287,7 @@ fn encode_at_least(
     }
     state.at = put_length(octets, state.at, context.is_aligned, count);
     state.next += 1;
-    encode_items_by(context, depth, node, is_set, item, count, octets, state)
+    encode_items_by(context, depth, node, true, item, count, octets, state)
 }
 
 /// Encodes a list after its number of items, which is bounded.
@@ -295,7 +353,7 @@ fn encode_items_by(
 
 /// Encodes so many items.
 #[cycle(encoding)]
-fn encode_items(
+pub(crate) fn encode_items(
     context: &Context<'_>,
     depth: usize,
     item: usize,

@@ -56,9 +56,10 @@ fn next_number_octets(octets: &[u8], node: usize, state: &mut State) -> Option<u
     Some(count)
 }
 
-/// Reads the same at an octet in the ALIGNED variant.
+/// Reads the number of the units that follow, fewer than 16,384 or those of a fragment, at an octet in
+/// the ALIGNED variant (X.691 11.9.3.5 to 11.9.3.8).
 #[inline(always)]
-fn next_number_of_units(
+pub fn next_number_of_units(
     octets: &[u8],
     is_aligned: bool,
     node: usize,

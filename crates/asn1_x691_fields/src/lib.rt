@@ -49,6 +49,7 @@ pub use contents::{are_subidentifiers, next_object_identifier, next_relative_ide
 pub use defaults::Defaults;
 pub use enumerations::next_enumerated;
 pub use extensible_integers::{next_integer_at_least_by, next_integer_between_by};
+pub use fragments::next_number_of_units;
 pub use heads::{next_bit, next_bits, next_start, next_word};
 pub use integers::{next_integer, next_integer_at_least, next_integer_between};
 pub use lengths::{next_length, next_small_length};
@@ -59,7 +60,7 @@ pub use octets::whole_octets;
 pub use reals::{is_real_at, next_real};
 pub use signed::{is_below, is_between, signed_at};
 pub use sized_texts::is_inline_text;
-pub use sizes::{next_added_length, next_length_at_least};
+pub use sizes::{is_of_root, next_added_length, next_length_at_least};
 pub use small::next_small_number;
 pub use state::{State, fail};
 pub use strings::{next_count, next_octets, next_units};

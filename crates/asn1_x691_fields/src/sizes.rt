@@ -12,7 +12,7 @@ use asn1_schema::Length;
 use asn1_x691::FaultKind;
 
 /// Returns whether a size constraint permits so many, without its extension marker.
-pub(crate) fn is_of_root(size: Length, count: usize) -> bool
+pub fn is_of_root(size: Length, count: usize) -> bool
     ensures of_root { result ≡ true → IsOfRoot size count }
     ensures added { result ≡ false → IsAddedSize size count }
 {

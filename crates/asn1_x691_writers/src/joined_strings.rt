@@ -10,10 +10,9 @@ ghost use Rattle.asn1_x691_writers.specs.Joined.{IsInside, bits_in};
 ghost use Rattle.asn1_x691_writers.specs.Units.{AreUnits};
 ghost use Rattle.asn1_x691_writers.specs.Written.{IsWritten};
 
-use crate::bits::put_number;
 use crate::heads::put_start;
 use crate::joined::{Joined, put_joined};
-use crate::lengths::put_length_octets;
+use crate::lengths::{put_fragment_number, put_number_of_units};
 use crate::numbers::put_constrained;
 use asn1_schema::Length;
 
@@ -203,8 +202,7 @@ fn put_few_joined(
     ensures { (node : ℕ) → AreUnits is_aligned 8 node count (bits_at (bits_in (bits source.now) joined.now) from (8 * count))
         octets.old at octets.new result }
 {
-    let start = put_start(octets, at, is_aligned);
-    let after = put_length_octets(octets, start, count);
+    let after = put_number_of_units(octets, at, is_aligned, count);
     put_joined(octets, after, source, joined, from, 8 * count)
 }
 
@@ -227,7 +225,6 @@ fn put_joined_fragment(
     ensures { (node : ℕ) → AreUnits is_aligned 8 node (16384 * times)
         (bits_at (bits_in (bits source.now) joined.now) from (8 * (16384 * times))) octets.old at octets.new result }
 {
-    let start = put_start(octets, at, is_aligned);
-    let after = put_number(octets, start, 192 + times as u64, 8);
+    let after = put_fragment_number(octets, at, is_aligned, times);
     put_joined(octets, after, source, joined, from, 8 * (16384 * times))
 }

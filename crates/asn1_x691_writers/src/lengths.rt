@@ -1,9 +1,9 @@
 //! Lengths (X.691 11.9).
 
-ghost use Rattle.std.specs.Prelude.{◌≡◌, ℕ, Bool, ◌*◌, ◌^◌, ◌<◌, length};
+ghost use Rattle.std.specs.Prelude.{◌≡◌, ℕ, Bool, ◌*◌, ◌^◌, ◌<◌, ◌≤◌, length};
 ghost use Rattle.asn1_schema.specs.Encodings.{anywhere};
 ghost use Rattle.asn1_x691.specs.Fields.{length_octets, length_of, small_length};
-ghost use Rattle.asn1_x691.specs.Fragments.{units_octets};
+ghost use Rattle.asn1_x691.specs.Fragments.{units_octets, units_next};
 ghost use Rattle.asn1_x691_writers.specs.Written.{IsWritten};
 
 use crate::bits::put_number;
@@ -36,6 +36,29 @@ pub fn put_length(octets: &mut [u8], at: usize, is_aligned: bool, n: usize) -> u
 {
     let start = put_start(octets, at, is_aligned);
     put_length_octets(octets, start, n)
+}
+
+/// Writes the number of the units that follow it, which must be below 16,384, as the last of a string
+/// or a list (X.691 11.9.3.5 to 11.9.3.8). Returns the index after it.
+pub fn put_number_of_units(octets: &mut [u8], at: usize, is_aligned: bool, n: usize) -> usize
+    requires size { 8 * length octets.old < 2 ^ 64 }
+    requires few { n < 16384 }
+    ensures { (node : ℕ) → IsWritten is_aligned (units_next is_aligned node) n octets.old at octets.new result }
+{
+    let start = put_start(octets, at, is_aligned);
+    put_length_octets(octets, start, n)
+}
+
+/// Writes the number of the units of a fragment, `times` times 16,384 (X.691 11.9.3.8). Returns the
+/// index after it.
+pub fn put_fragment_number(octets: &mut [u8], at: usize, is_aligned: bool, times: usize) -> usize
+    requires size { 8 * length octets.old < 2 ^ 64 }
+    requires some { 1 ≤ times }
+    requires few { times ≤ 4 }
+    ensures { (node : ℕ) → IsWritten is_aligned (units_next is_aligned node) (16384 * times) octets.old at octets.new result }
+{
+    let start = put_start(octets, at, is_aligned);
+    put_number(octets, start, 192 + times as u64, 8)
 }
 
 /// Writes a normally small length, which must be from 1 to 16,383 (X.691 11.9.3.4). Returns the

@@ -52,7 +52,7 @@ pub use heads::put_start;
 pub use held::{Held, bit_at, integer_of, strip_signs};
 pub use integers::{put_integer, put_integer_at_least, put_integer_between};
 pub use joined::{put_fragments, size_of_fragments};
-pub use lengths::{put_length, put_small_length};
+pub use lengths::{put_fragment_number, put_length, put_number_of_units, put_small_length};
 pub use numbers::put_constrained;
 pub use octet_strings::put_octet_string;
 pub use reserves::{put_zeros, set_bit};

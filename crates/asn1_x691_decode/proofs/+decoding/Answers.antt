@@ -3,6 +3,7 @@ mod Nodes
 mod Sequences
 mod Additions
 mod Choices
+mod Fragments
 mod Lists
 mod Sets
 mod OpenTypes
@@ -11,6 +12,7 @@ use Rattle.asn1_x691_decode.proofs.+decoding.Answers.Sequences as sequences
 use Rattle.asn1_x691_decode.proofs.+decoding.Answers.OpenTypes as opentypes
 use Rattle.asn1_x691_decode.proofs.+decoding.Answers.Additions as additions
 use Rattle.asn1_x691_decode.proofs.+decoding.Answers.Choices as choices
+use Rattle.asn1_x691_decode.proofs.+decoding.Answers.Fragments as fragments
 use Rattle.asn1_x691_decode.proofs.+decoding.Answers.Lists as lists
 use Rattle.asn1_x691_decode.proofs.+decoding.Answers.Sets as sets
 use Rattle.asn1_x691_decode.proofs.+decoding.Goals as goal
@@ -174,15 +176,6 @@ choice::decode_choice-returns-in-Some-true-clause-did = choices.decode_choice-re
 pub choice::decode_choice-returns-in-Some-false-clause-did : goal.choice::decode_choice-returns-in-Some-false-clause-did
 choice::decode_choice-returns-in-Some-false-clause-did = choices.decode_choice-returns-in-Some-false-clause-did
 
-pub list::decode_added_list-returns-in-Some-clause-did : goal.list::decode_added_list-returns-in-Some-clause-did
-list::decode_added_list-returns-in-Some-clause-did = lists.decode_added_list-returns-in-Some-clause-did
-
-pub list::decode_root_list-returns-in-Some-clause-did : goal.list::decode_root_list-returns-in-Some-clause-did
-list::decode_root_list-returns-in-Some-clause-did = lists.decode_root_list-returns-in-Some-clause-did
-
-pub list::decode_root_list-returns-in-Some-next_constrained-clause-did : goal.list::decode_root_list-returns-in-Some-next_constrained-clause-did
-list::decode_root_list-returns-in-Some-next_constrained-clause-did = lists.decode_root_list-returns-in-Some-next_constrained-clause-did
-
 pub list::decode_list-returns-in-Some-true-clause-did : goal.list::decode_list-returns-in-Some-true-clause-did
 list::decode_list-returns-in-Some-true-clause-did = lists.decode_list-returns-in-Some-true-clause-did
 
@@ -233,3 +226,60 @@ set::decode_item-is_before-requires-clause-inside = sets.decode_item-is_before-r
 
 pub decoder::decode_node-returns-in-Text-clause-did : goal.decoder::decode_node-returns-in-Text-clause-did
 decoder::decode_node-returns-in-Text-clause-did = nodes.decode_node-returns-in-Text-clause-did
+
+pub fragments::decode_last_items-returns-then-count-ge16384-clause-did : goal.fragments::decode_last_items-returns-then-count-ge16384-clause-did
+fragments::decode_last_items-returns-then-count-ge16384-clause-did = fragments.decode_last_items-returns-then-count-ge16384-clause-did
+
+pub fragments::decode_last_items-returns-then-not-decode_items-clause-did : goal.fragments::decode_last_items-returns-then-not-decode_items-clause-did
+fragments::decode_last_items-returns-then-not-decode_items-clause-did = fragments.decode_last_items-returns-then-not-decode_items-clause-did
+
+pub fragments::decode_last_items-returns-clause-did : goal.fragments::decode_last_items-returns-clause-did
+fragments::decode_last_items-returns-clause-did = fragments.decode_last_items-returns-clause-did
+
+pub fragments::decode_numbered_items-returns-in_default-clause-did : goal.fragments::decode_numbered_items-returns-in_default-clause-did
+fragments::decode_numbered_items-returns-in_default-clause-did = fragments.decode_numbered_items-returns-in_default-clause-did
+
+pub fragments::decode_numbered_items-returns-then-not-decode_items-clause-did : goal.fragments::decode_numbered_items-returns-then-not-decode_items-clause-did
+fragments::decode_numbered_items-returns-then-not-decode_items-clause-did = fragments.decode_numbered_items-returns-then-not-decode_items-clause-did
+
+pub fragments::decode_numbered_items-returns-then-count-lt16384-clause-did : goal.fragments::decode_numbered_items-returns-then-count-lt16384-clause-did
+fragments::decode_numbered_items-returns-then-count-lt16384-clause-did = fragments.decode_numbered_items-returns-then-count-lt16384-clause-did
+
+pub fragments::decode_numbered_items-returns-in_default-decode_last_items-clause-did : goal.fragments::decode_numbered_items-returns-in_default-decode_last_items-clause-did
+fragments::decode_numbered_items-returns-in_default-decode_last_items-clause-did = fragments.decode_numbered_items-returns-in_default-decode_last_items-clause-did
+
+pub fragments::decode_numbered_items-returns-then-count-lt65536-clause-did : goal.fragments::decode_numbered_items-returns-then-count-lt65536-clause-did
+fragments::decode_numbered_items-returns-then-count-lt65536-clause-did = fragments.decode_numbered_items-returns-then-count-lt65536-clause-did
+
+pub fragments::decode_numbered_items-loop-whole-preserved : goal.fragments::decode_numbered_items-loop-whole-preserved
+fragments::decode_numbered_items-loop-whole-preserved = fragments.decode_numbered_items-loop-whole-preserved
+
+pub fragments::decode_numbered_items-returns-in_default-decode_last_items-2-clause-did : goal.fragments::decode_numbered_items-returns-in_default-decode_last_items-2-clause-did
+fragments::decode_numbered_items-returns-in_default-decode_last_items-2-clause-did = fragments.decode_numbered_items-returns-in_default-decode_last_items-2-clause-did
+
+pub fragments::decode_numbered_items-returns-clause-did : goal.fragments::decode_numbered_items-returns-clause-did
+fragments::decode_numbered_items-returns-clause-did = fragments.decode_numbered_items-returns-clause-did
+
+pub fragments::decode_numbered_list-returns-clause-did : goal.fragments::decode_numbered_list-returns-clause-did
+fragments::decode_numbered_list-returns-clause-did = fragments.decode_numbered_list-returns-clause-did
+
+pub list::decode_added_list-returns-then-is_of_root-clause-did : goal.list::decode_added_list-returns-then-is_of_root-clause-did
+list::decode_added_list-returns-then-is_of_root-clause-did = lists.decode_added_list-returns-then-is_of_root-clause-did
+
+pub list::decode_added_list-returns-clause-did : goal.list::decode_added_list-returns-clause-did
+list::decode_added_list-returns-clause-did = lists.decode_added_list-returns-clause-did
+
+pub list::decode_added_set-returns-clause-did : goal.list::decode_added_set-returns-clause-did
+list::decode_added_set-returns-clause-did = lists.decode_added_set-returns-clause-did
+
+pub list::decode_at_least-returns-then-count-least-clause-did : goal.list::decode_at_least-returns-then-count-least-clause-did
+list::decode_at_least-returns-then-count-least-clause-did = lists.decode_at_least-returns-then-count-least-clause-did
+
+pub list::decode_at_least-returns-clause-did : goal.list::decode_at_least-returns-clause-did
+list::decode_at_least-returns-clause-did = lists.decode_at_least-returns-clause-did
+
+pub list::decode_root_list-returns-in-Some-clause-did : goal.list::decode_root_list-returns-in-Some-clause-did
+list::decode_root_list-returns-in-Some-clause-did = lists.decode_root_list-returns-in-Some-clause-did
+
+pub list::decode_set_at_least-returns-clause-did : goal.list::decode_set_at_least-returns-clause-did
+list::decode_set_at_least-returns-clause-did = lists.decode_set_at_least-returns-clause-did

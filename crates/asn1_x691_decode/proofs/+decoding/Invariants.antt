@@ -2,8 +2,9 @@ use Rattle.std.proofs.Common.{◌≡◌, ◌≤◌, ◌*◌, ◌+◌, ◌-◌, [
 use Rattle.asn1_bits.specs.Bits.{bits}
 use Rattle.asn1_schema.specs.PiecesOfParts.{bits_at}
 use Rattle.asn1_x691_fields.specs.Outcomes.{IsWithin, IsMoved}
-use Rattle.asn1_x691_decode.specs.Decoding.{components_in, additions_in, items_in, set_items_in, IsItemBefore, told_by}
+use Rattle.asn1_x691_decode.specs.Decoding.{most_item_fragments, numbered_in, components_in, additions_in, items_in, set_items_in, IsItemBefore, told_by}
 use Rattle.asn1_x691_decode.proofs.Steps.{IsUnderway}
+use Rattle.asn1_x691_decode.proofs.FragmentSteps.{AreUnderway}
 use Rattle.asn1_x691_decode.proofs.+decoding.Given as goal
 
 abbrev pub decreases-decoder::decode_node : goal.decreases-decoder::decode_node
@@ -84,13 +85,13 @@ abbrev pub decreases-list::decode_items : goal.decreases-list::decode_items
 decreases-list::decode_items l = 16 * l.depth + 1
 
 abbrev pub decreases-list::decode_root_list : goal.decreases-list::decode_root_list
-decreases-list::decode_root_list l = 16 * l.depth + 4
+decreases-list::decode_root_list l = 16 * l.depth + 6
 
 abbrev pub decreases-list::decode_added_list : goal.decreases-list::decode_added_list
-decreases-list::decode_added_list l = 16 * l.depth + 4
+decreases-list::decode_added_list l = 16 * l.depth + 6
 
 abbrev pub decreases-list::decode_list : goal.decreases-list::decode_list
-decreases-list::decode_list l = 16 * l.depth + 5
+decreases-list::decode_list l = 16 * l.depth + 7
 
 abbrev pub invariant-list::decode_items-loop-left : goal.invariant-list::decode_items-loop-left
 invariant-list::decode_items-loop-left l =
@@ -122,3 +123,32 @@ invariant-set::decode_set_items-loop-left l =
 
 abbrev pub decreases-set::decode_set_items-loop-left : goal.decreases-set::decode_set_items-loop-left
 decreases-set::decode_set_items-loop-left l = l.left
+
+abbrev pub decreases-fragments::decode_last_items : goal.decreases-fragments::decode_last_items
+decreases-fragments::decode_last_items l = 16 * l.depth + 2
+
+abbrev pub decreases-fragments::decode_numbered_items : goal.decreases-fragments::decode_numbered_items
+decreases-fragments::decode_numbered_items l = 16 * l.depth + 3
+
+abbrev pub decreases-fragments::decode_numbered_list : goal.decreases-fragments::decode_numbered_list
+decreases-fragments::decode_numbered_list l = 16 * l.depth + 4
+
+abbrev pub decreases-list::decode_at_least : goal.decreases-list::decode_at_least
+decreases-list::decode_at_least l = 16 * l.depth + 5
+
+abbrev pub decreases-list::decode_set_at_least : goal.decreases-list::decode_set_at_least
+decreases-list::decode_set_at_least l = 16 * l.depth + 5
+
+abbrev pub decreases-list::decode_added_set : goal.decreases-list::decode_added_set
+decreases-list::decode_added_set l = 16 * l.depth + 5
+
+abbrev pub invariant-fragments::decode_numbered_items-loop-whole : goal.invariant-fragments::decode_numbered_items-loop-whole
+invariant-fragments::decode_numbered_items-loop-whole l =
+    IsWithin (bits l.context.octets.now) l.state × IsMoved (bits l.context.octets.now) l.initial.state l.state
+    × (l.whole ≤ 4294967296)
+    × AreUnderway l.context (numbered_in l.context l.depth l.node l.item most_item_fragments)
+    (numbered_in l.context l.depth l.node l.item (most_item_fragments - l.whole)) l.initial.state l.state l.initial.parts l.parts
+    (65536 * l.whole)
+
+abbrev pub decreases-fragments::decode_numbered_items-loop-whole : goal.decreases-fragments::decode_numbered_items-loop-whole
+decreases-fragments::decode_numbered_items-loop-whole l = 4294967296 - l.whole

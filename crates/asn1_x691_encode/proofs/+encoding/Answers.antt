@@ -1,6 +1,7 @@
 -- The answers, by the sort of type that they are of.
 mod Nodes
 mod Lists
+mod Fragments
 mod Choices
 mod Contents
 mod Sequences
@@ -13,6 +14,7 @@ mod Values
 mod Sets
 use Rattle.asn1_x691_encode.proofs.+encoding.Answers.Nodes as nodes
 use Rattle.asn1_x691_encode.proofs.+encoding.Answers.Lists as lists
+use Rattle.asn1_x691_encode.proofs.+encoding.Answers.Fragments as fragments
 use Rattle.asn1_x691_encode.proofs.+encoding.Answers.Choices as choices
 use Rattle.asn1_x691_encode.proofs.+encoding.Answers.Contents as contents
 use Rattle.asn1_x691_encode.proofs.+encoding.Answers.Sequences as sequences
@@ -70,15 +72,6 @@ encoder::encode_node-returns-in-Text = contents.encode_node-returns-in-Text
 pub encoder::encode_node-returns-else-is_extensible : goal.encoder::encode_node-returns-else-is_extensible
 encoder::encode_node-returns-else-is_extensible = nodes.encode_node-returns-else-is_extensible
 
-pub list::encode_at_least-returns-then-count-least : goal.list::encode_at_least-returns-then-count-least
-list::encode_at_least-returns-then-count-least = lists.encode_at_least-returns-then-count-least
-
-pub list::encode_at_least-overflow_add-state : goal.list::encode_at_least-overflow_add-state
-list::encode_at_least-overflow_add-state = lists.encode_at_least-overflow_add-state
-
-pub list::encode_at_least-returns : goal.list::encode_at_least-returns
-list::encode_at_least-returns = lists.encode_at_least-returns
-
 pub list::encode_between-returns-then-count-least : goal.list::encode_between-returns-then-count-least
 list::encode_between-returns-then-count-least = lists.encode_between-returns-then-count-least
 
@@ -100,9 +93,6 @@ list::encode_items-loop-left-preserved = lists.encode_items-loop-left-preserved
 pub list::encode_items-returns : goal.list::encode_items-returns
 list::encode_items-returns = lists.encode_items-returns
 
-pub list::encode_list_of-returns-in-AtLeast : goal.list::encode_list_of-returns-in-AtLeast
-list::encode_list_of-returns-in-AtLeast = lists.encode_list_of-returns-in-AtLeast
-
 pub list::encode_list_of-returns-in-Between : goal.list::encode_list_of-returns-in-Between
 list::encode_list_of-returns-in-Between = lists.encode_list_of-returns-in-Between
 
@@ -123,15 +113,6 @@ choice::encode_index-returns = choices.encode_index-returns
 
 pub choice::encode_alternative-returns-in-Some : goal.choice::encode_alternative-returns-in-Some
 choice::encode_alternative-returns-in-Some = choices.encode_alternative-returns-in-Some
-
-pub list::encode_added_list-returns-then-count-ge16384 : goal.list::encode_added_list-returns-then-count-ge16384
-list::encode_added_list-returns-then-count-ge16384 = lists.encode_added_list-returns-then-count-ge16384
-
-pub list::encode_added_list-overflow_add-state : goal.list::encode_added_list-overflow_add-state
-list::encode_added_list-overflow_add-state = lists.encode_added_list-overflow_add-state
-
-pub list::encode_added_list-returns : goal.list::encode_added_list-returns
-list::encode_added_list-returns = lists.encode_added_list-returns
 
 pub list::encode_extensible_list-returns-in-None-added_count : goal.list::encode_extensible_list-returns-in-None-added_count
 list::encode_extensible_list-returns-in-None-added_count = lists.encode_extensible_list-returns-in-None-added_count
@@ -351,3 +332,63 @@ set::are_ordered_alone-returns-then-not-are_in-clause-ordered = sets.are_ordered
 
 pub set::are_ordered_alone-returns-clause-ordered : goal.set::are_ordered_alone-returns-clause-ordered
 set::are_ordered_alone-returns-clause-ordered = sets.are_ordered_alone-returns-clause-ordered
+
+pub fragments::encode_items_below-returns-then-count-lt16384 : goal.fragments::encode_items_below-returns-then-count-lt16384
+fragments::encode_items_below-returns-then-count-lt16384 = fragments.encode_items_below-returns-then-count-lt16384
+
+pub fragments::encode_items_below-returns-then-not-encode_items : goal.fragments::encode_items_below-returns-then-not-encode_items
+fragments::encode_items_below-returns-then-not-encode_items = fragments.encode_items_below-returns-then-not-encode_items
+
+pub fragments::encode_items_below-returns : goal.fragments::encode_items_below-returns
+fragments::encode_items_below-returns = fragments.encode_items_below-returns
+
+pub fragments::encode_numbered_items-loop-whole-preserved : goal.fragments::encode_numbered_items-loop-whole-preserved
+fragments::encode_numbered_items-loop-whole-preserved = fragments.encode_numbered_items-loop-whole-preserved
+
+pub fragments::encode_numbered_items-returns-then-not-encode_items : goal.fragments::encode_numbered_items-returns-then-not-encode_items
+fragments::encode_numbered_items-returns-then-not-encode_items = fragments.encode_numbered_items-returns-then-not-encode_items
+
+pub fragments::encode_numbered_items-returns : goal.fragments::encode_numbered_items-returns
+fragments::encode_numbered_items-returns = fragments.encode_numbered_items-returns
+
+pub list::encode_at_least-returns-then-count-least : goal.list::encode_at_least-returns-then-count-least
+list::encode_at_least-returns-then-count-least = lists.encode_at_least-returns-then-count-least
+
+pub list::encode_at_least-overflow_add-state : goal.list::encode_at_least-overflow_add-state
+list::encode_at_least-overflow_add-state = lists.encode_at_least-overflow_add-state
+
+pub list::encode_at_least-returns : goal.list::encode_at_least-returns
+list::encode_at_least-returns = lists.encode_at_least-returns
+
+pub list::encode_set_at_least-returns-then-count-least : goal.list::encode_set_at_least-returns-then-count-least
+list::encode_set_at_least-returns-then-count-least = lists.encode_set_at_least-returns-then-count-least
+
+pub list::encode_set_at_least-overflow_add-state : goal.list::encode_set_at_least-overflow_add-state
+list::encode_set_at_least-overflow_add-state = lists.encode_set_at_least-overflow_add-state
+
+pub list::encode_set_at_least-returns : goal.list::encode_set_at_least-returns
+list::encode_set_at_least-returns = lists.encode_set_at_least-returns
+
+pub list::encode_list_of-returns-then-is_set : goal.list::encode_list_of-returns-then-is_set
+list::encode_list_of-returns-then-is_set = lists.encode_list_of-returns-then-is_set
+
+pub list::encode_list_of-returns-in-AtLeast : goal.list::encode_list_of-returns-in-AtLeast
+list::encode_list_of-returns-in-AtLeast = lists.encode_list_of-returns-in-AtLeast
+
+pub list::encode_added_list-returns-then-is_set : goal.list::encode_added_list-returns-then-is_set
+list::encode_added_list-returns-then-is_set = lists.encode_added_list-returns-then-is_set
+
+pub list::encode_added_list-overflow_add-state : goal.list::encode_added_list-overflow_add-state
+list::encode_added_list-overflow_add-state = lists.encode_added_list-overflow_add-state
+
+pub list::encode_added_list-returns : goal.list::encode_added_list-returns
+list::encode_added_list-returns = lists.encode_added_list-returns
+
+pub list::encode_added_set-returns-then-count-ge16384 : goal.list::encode_added_set-returns-then-count-ge16384
+list::encode_added_set-returns-then-count-ge16384 = lists.encode_added_set-returns-then-count-ge16384
+
+pub list::encode_added_set-overflow_add-state : goal.list::encode_added_set-overflow_add-state
+list::encode_added_set-overflow_add-state = lists.encode_added_set-overflow_add-state
+
+pub list::encode_added_set-returns : goal.list::encode_added_set-returns
+list::encode_added_set-returns = lists.encode_added_set-returns

@@ -1,7 +1,8 @@
-use Rattle.std.proofs.Common.{◌+◌, ◌-◌, ◌*◌, ◌≤◌}
+use Rattle.std.proofs.Common.{◌+◌, ◌-◌, ◌*◌, ◌%◌, ◌≤◌}
 use Rattle.asn1_schema.specs.TypeEncodings.{several}
 use Rattle.asn1_x691.specs.Types.{optional_count}
-use Rattle.asn1_x691_encode.specs.Encoding.{types, components_in, additions_in}
+use Rattle.asn1_x691_encode.specs.Encoding.{types, numbered_in, components_in, additions_in}
+use Rattle.asn1_x691_encode.specs.FragmentSteps.{whole_in}
 use Rattle.asn1_x691_encode.specs.Components.{AreUnderway}
 use Rattle.asn1_x691_encode.specs.AdditionSteps.{HasAdditions}
 use Rattle.asn1_x691_encode.specs.ListSteps.{IsUnderway}
@@ -14,23 +15,43 @@ decreases-encoder::encode_node l = 32 * l.depth
 abbrev pub decreases-list::encode_items : goal.decreases-list::encode_items
 decreases-list::encode_items l = 32 * l.depth + 4
 
+abbrev pub decreases-fragments::encode_items_below : goal.decreases-fragments::encode_items_below
+decreases-fragments::encode_items_below l = 32 * l.depth + 5
+
+abbrev pub decreases-fragments::encode_numbered_items : goal.decreases-fragments::encode_numbered_items
+decreases-fragments::encode_numbered_items l = 32 * l.depth + 6
+
+abbrev pub invariant-fragments::encode_numbered_items-loop-whole : goal.invariant-fragments::encode_numbered_items-loop-whole
+invariant-fragments::encode_numbered_items-loop-whole l =
+    IsUnderway l.context (numbered_in l.context l.depth l.node l.item l.count)
+    (whole_in l.context l.depth l.node l.item l.whole (l.count % 65536)) l.initial.octets l.initial.state l.octets l.state
+
+abbrev pub decreases-fragments::encode_numbered_items-loop-whole : goal.decreases-fragments::encode_numbered_items-loop-whole
+decreases-fragments::encode_numbered_items-loop-whole l = l.whole
+
 abbrev pub decreases-list::encode_at_least : goal.decreases-list::encode_at_least
-decreases-list::encode_at_least l = 32 * l.depth + 6
+decreases-list::encode_at_least l = 32 * l.depth + 7
+
+abbrev pub decreases-list::encode_set_at_least : goal.decreases-list::encode_set_at_least
+decreases-list::encode_set_at_least l = 32 * l.depth + 6
+
+abbrev pub decreases-list::encode_added_set : goal.decreases-list::encode_added_set
+decreases-list::encode_added_set l = 32 * l.depth + 6
 
 abbrev pub decreases-list::encode_between : goal.decreases-list::encode_between
 decreases-list::encode_between l = 32 * l.depth + 6
 
 abbrev pub decreases-list::encode_list_of : goal.decreases-list::encode_list_of
-decreases-list::encode_list_of l = 32 * l.depth + 7
+decreases-list::encode_list_of l = 32 * l.depth + 8
 
 abbrev pub decreases-list::encode_list : goal.decreases-list::encode_list
-decreases-list::encode_list l = 32 * l.depth + 8
+decreases-list::encode_list l = 32 * l.depth + 9
 
 abbrev pub decreases-list::encode_added_list : goal.decreases-list::encode_added_list
-decreases-list::encode_added_list l = 32 * l.depth + 6
+decreases-list::encode_added_list l = 32 * l.depth + 7
 
 abbrev pub decreases-list::encode_extensible_list : goal.decreases-list::encode_extensible_list
-decreases-list::encode_extensible_list l = 32 * l.depth + 8
+decreases-list::encode_extensible_list l = 32 * l.depth + 9
 
 abbrev pub decreases-choice::encode_alternative : goal.decreases-choice::encode_alternative
 decreases-choice::encode_alternative l = 32 * l.depth + 4
@@ -149,7 +170,7 @@ abbrev pub decreases-list::encode_items_by : goal.decreases-list::encode_items_b
 decreases-list::encode_items_by l = 32 * l.depth + 5
 
 abbrev pub decreases-list::encode_list_by : goal.decreases-list::encode_list_by
-decreases-list::encode_list_by l = 32 * l.depth + 9
+decreases-list::encode_list_by l = 32 * l.depth + 10
 
 abbrev pub invariant-set::encode_set_items-loop-left : goal.invariant-set::encode_set_items-loop-left
 invariant-set::encode_set_items-loop-left l =

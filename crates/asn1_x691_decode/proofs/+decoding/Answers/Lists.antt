@@ -1,30 +1,94 @@
 -- Answers for the decoders of src/list.rt.
-use Rattle.std.proofs.Common.{ℕ, ◌+◌, ◌-◌, Bool, true, false, sym, subst, arith}
+use Rattle.std.proofs.Common.{ℕ, ◌+◌, ◌-◌, ◌<◌, ◌≤◌, Bool, true, false, sym, subst, arith}
 use Rattle.asn1_bits.specs.Bits.{bits}
 use Rattle.asn1_schema.specs.Pieces.{Parts}
 use Rattle.asn1_schema.specs.Encodings.{Encoding, Starts}
 use Rattle.asn1_x691.specs.declared.fault.FaultKind.{FaultKind}
 use Rattle.asn1_x691.specs.Strings.{bit}
 use Rattle.asn1_x691_fields.specs.Outcomes.{rest, position, fault_of}
-use Rattle.asn1_x691_fields.specs.Steps.{within_after, moved_over}
+use Rattle.asn1_x691_fields.specs.Steps.{within_after, moved_over, fault_at}
 use Rattle.asn1_x691_decode.specs.Decoding.{Outcome, types}
 use Rattle.asn1_x691_decode.proofs.Steps.{over, fails_on, outcome_on, by_true, by_false}
 use Rattle.asn1_schema.specs.declared.tables.Length.{Length}
 use Rattle.asn1_schema.specs.declared.tables.Length.TheVariants.{AtLeast, Between}
-use Rattle.asn1_x691_decode.specs.Decoding.{sequence_of_in, root_list_in, added_list_in, all_items_in}
+use Rattle.asn1_x691.specs.declared.fault.FaultKind.TheVariants.{BelowLeast, InRoot}
+use Rattle.asn1_x691.specs.Strings.{IsOfRoot, IsAddedSize}
+use Rattle.asn1_x691_decode.specs.Decoding.{sequence_of_in, root_list_in, at_least_in, added_list_in, all_items_in, most_item_fragments}
+use Rattle.asn1_x691_decode.proofs.FragmentSteps as steps
 use Rattle.asn1_x691_decode.proofs.ListSteps as list
 use Rattle.asn1_x691_decode.proofs.+decoding.Goals as goal
 
-pub decode_added_list-returns-in-Some-clause-did : goal.list::decode_added_list-returns-in-Some-clause-did
-decode_added_list-returns-in-Some-clause-did t c =
+pub decode_at_least-returns-then-count-least-clause-did : goal.list::decode_at_least-returns-then-count-least-clause-did
+decode_at_least-returns-then-count-least-clause-did t c =
+    let cx = c.args.context.now in
+    let bs = bits cx.octets.now in
+    let a = c.args in
+    let least = a.least in
+    let now = c.decode_numbered_list.new in
+    let new = c.fail.new.state in
+    steps.list_size cx a.depth a.node a.item (λ n. least ≤ n) (λ n. n < least) BelowLeast most_item_fragments c.in-Some.count a.state.now now.state
+    a.parts.now now.parts c.requires.within c.decode_numbered_list.ensures.moved c.in-Some.ensures.did (fault_of new) c.if-count-least.true
+    (fault_at bs now.state new a.node BelowLeast c.decode_numbered_list.ensures.moved.inside c.fail.ensures.at c.fail.ensures.end
+    c.fail.ensures.node c.fail.ensures.kind)
+
+pub decode_at_least-returns-clause-did : goal.list::decode_at_least-returns-clause-did
+decode_at_least-returns-clause-did t c =
+    let cx = c.args.context.now in
+    let a = c.args in
+    let least = a.least in
+    let now = c.decode_numbered_list.new in
+    steps.list_done cx a.depth a.node a.item (λ n. least ≤ n) (λ n. n < least) BelowLeast most_item_fragments c.in-Some.count a.state.now now.state
+    a.parts.now now.parts c.requires.within c.decode_numbered_list.ensures.moved c.in-Some.ensures.did (omega (arith, c.if-count-least.false))
+
+pub decode_added_list-returns-then-is_of_root-clause-did : goal.list::decode_added_list-returns-then-is_of_root-clause-did
+decode_added_list-returns-then-is_of_root-clause-did t c =
+    let cx = c.args.context.now in
+    let bs = bits cx.octets.now in
+    let a = c.args in
+    let now = c.decode_numbered_list.new in
+    let new = c.fail.new.state in
+    let L : Bool → ℕ → Encoding FaultKind Parts = λ b at. (added_list_in cx a.depth a.node b a.size a.item at).encoding in
+    subst (λ (b : Bool). Outcome cx (L b) a.state.now new a.parts.now now.parts false) (sym c.if-is_set.false)
+    (steps.list_size cx a.depth a.node a.item (IsAddedSize a.size) (IsOfRoot a.size) InRoot most_item_fragments c.in-Some.count a.state.now now.state
+    a.parts.now now.parts c.requires.within c.decode_numbered_list.ensures.moved c.in-Some.ensures.did (fault_of new)
+    (c.is_of_root.ensures.of_root c.if-is_of_root.true)
+    (fault_at bs now.state new a.node InRoot c.decode_numbered_list.ensures.moved.inside c.fail.ensures.at c.fail.ensures.end
+    c.fail.ensures.node c.fail.ensures.kind))
+
+pub decode_added_list-returns-clause-did : goal.list::decode_added_list-returns-clause-did
+decode_added_list-returns-clause-did t c =
+    let cx = c.args.context.now in
+    let a = c.args in
+    let now = c.decode_numbered_list.new in
+    let L : Bool → ℕ → Encoding FaultKind Parts = λ b at. (added_list_in cx a.depth a.node b a.size a.item at).encoding in
+    subst (λ (b : Bool). Outcome cx (L b) a.state.now now.state a.parts.now now.parts true) (sym c.if-is_set.false)
+    (steps.list_done cx a.depth a.node a.item (IsAddedSize a.size) (IsOfRoot a.size) InRoot most_item_fragments c.in-Some.count a.state.now now.state
+    a.parts.now now.parts c.requires.within c.decode_numbered_list.ensures.moved c.in-Some.ensures.did
+    (c.is_of_root.ensures.added c.if-is_of_root.false))
+
+pub decode_added_set-returns-clause-did : goal.list::decode_added_set-returns-clause-did
+decode_added_set-returns-clause-did t c =
     let cx = c.args.context.now in
     let a = c.args in
     let now = c.push.new in
     let last = c.decode_each in
-    outcome_on cx (λ at. (added_list_in cx a.depth a.node a.is_set a.size a.item at).encoding) (list.L cx a.depth a.node a.is_set a.item c.in-Some.count) a.state.now now.state
+    outcome_on cx (λ at. (added_list_in cx a.depth a.node true a.size a.item at).encoding) (list.S cx a.depth a.node a.item c.in-Some.count) a.state.now now.state
     last.new.state a.parts.now now.parts last.new.parts last.result
-    (list.added_step cx a.depth a.node a.is_set a.item a.size c.in-Some.count a.state.now c.next_added_length.new.state now.state a.parts.now now.parts
+    (list.added_step cx a.depth a.node a.item a.size c.in-Some.count a.state.now c.next_added_length.new.state now.state a.parts.now now.parts
     c.requires.within c.next_added_length.ensures.onward c.in-Some.ensures.read
+    (record { at = c.push.ensures.at; first = c.push.ensures.first; end = c.push.ensures.end }) (c.push.ensures.grown cx.tables.ranges.now (bits cx.octets.now)))
+    last.ensures.did
+
+pub decode_set_at_least-returns-clause-did : goal.list::decode_set_at_least-returns-clause-did
+decode_set_at_least-returns-clause-did t c =
+    let cx = c.args.context.now in
+    let a = c.args in
+    let now = c.push.new in
+    let last = c.decode_each in
+    outcome_on cx (λ at. (at_least_in cx a.depth a.node true a.least a.item at).encoding) (list.S cx a.depth a.node a.item c.in-Some.count) a.state.now now.state
+    last.new.state a.parts.now now.parts last.new.parts last.result
+    (list.at_least_step cx a.depth a.node a.item a.least c.in-Some.count a.state.now c.next_length_at_least.new.state now.state a.parts.now now.parts
+    c.requires.within c.next_length_at_least.ensures.onward c.in-Some.ensures.read
     (record { at = c.push.ensures.at; first = c.push.ensures.first; end = c.push.ensures.end }) (c.push.ensures.grown cx.tables.ranges.now (bits cx.octets.now)))
     last.ensures.did
 
@@ -32,31 +96,16 @@ pub decode_root_list-returns-in-Some-clause-did : goal.list::decode_root_list-re
 decode_root_list-returns-in-Some-clause-did t c =
     let cx = c.args.context.now in
     let a = c.args in
-    let now = c.push.new in
-    let last = c.decode_each in
-    let L : Length → ℕ → Encoding FaultKind Parts = λ size at. (root_list_in cx a.depth a.node a.is_set size a.item at).encoding in
-    subst (λ (size : Length). Outcome cx (L size) a.state.now last.new.state a.parts.now last.new.parts last.result) (sym c.in-AtLeast.is)
-    (outcome_on cx (L (AtLeast c.in-AtLeast.least)) (list.L cx a.depth a.node a.is_set a.item c.in-Some.count) a.state.now now.state
-    last.new.state a.parts.now now.parts last.new.parts last.result
-    (list.at_least_step cx a.depth a.node a.is_set a.item c.in-AtLeast.least c.in-Some.count a.state.now c.next_length_at_least.new.state now.state a.parts.now now.parts
-    c.requires.within c.next_length_at_least.ensures.onward c.in-Some.ensures.read
-    (record { at = c.push.ensures.at; first = c.push.ensures.first; end = c.push.ensures.end }) (c.push.ensures.grown cx.tables.ranges.now (bits cx.octets.now)))
-    last.ensures.did)
-
-pub decode_root_list-returns-in-Some-next_constrained-clause-did : goal.list::decode_root_list-returns-in-Some-next_constrained-clause-did
-decode_root_list-returns-in-Some-next_constrained-clause-did t c =
-    let cx = c.args.context.now in
-    let a = c.args in
-    let p = c.push-in-Some-next_constrained in
+    let p = c.push in
     let now = p.new in
-    let last = c.decode_each-in-Some-next_constrained in
-    let d = c.in-Some-next_constrained.more in
+    let last = c.decode_each in
+    let d = c.in-Some.more in
     let L : Length → ℕ → Encoding FaultKind Parts = λ size at. (root_list_in cx a.depth a.node a.is_set size a.item at).encoding in
     subst (λ (size : Length). Outcome cx (L size) a.state.now last.new.state a.parts.now last.new.parts last.result) (sym c.in-Between.is)
     (outcome_on cx (L (Between c.in-Between.least c.in-Between.range)) (list.L cx a.depth a.node a.is_set a.item (c.in-Between.least + d)) a.state.now now.state
     last.new.state a.parts.now now.parts last.new.parts last.result
     (list.between_step cx a.depth a.node a.is_set a.item c.in-Between.least c.in-Between.range d a.state.now c.next_constrained.new.state now.state a.parts.now now.parts
-    c.requires.within c.next_constrained.ensures.onward c.in-Some-next_constrained.ensures.read
+    c.requires.within c.next_constrained.ensures.onward c.in-Some.ensures.read
     (record { at = p.ensures.at; first = p.ensures.first; end = p.ensures.end }) (p.ensures.grown cx.tables.ranges.now (bits cx.octets.now)))
     last.ensures.did)
 

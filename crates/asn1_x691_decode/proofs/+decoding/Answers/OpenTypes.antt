@@ -5,7 +5,7 @@ use Rattle.asn1_x691_decode.specs.Decoding.{Outcome, value_in}
 use Rattle.asn1_x691_decode.proofs.Steps.{by_true, by_false}
 use Rattle.asn1_x691.specs.OpenTypes.{complete}
 use Rattle.asn1_x691_fields.specs.declared.state.State.{State}
-use Rattle.asn1_x691_decode.specs.Room.{IsGrown}
+use Rattle.asn1_schema.specs.Room.{IsGrown}
 use Rattle.asn1_x691_decode.proofs.OpenSteps.{complete_outcome, complete_fails, enclosed_starts, enclosed_fault, contents_true, contents_false}
 use Rattle.asn1_schema.specs.declared.tables.Presence.{Presence}
 use Rattle.asn1_schema.specs.declared.misfit.MisfitKind.TheVariants as misfit

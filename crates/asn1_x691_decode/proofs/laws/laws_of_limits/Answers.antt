@@ -1,16 +1,21 @@
-use Rattle.std.proofs.Common.{ℕ, refl, arith}
+use Rattle.std.proofs.Common.{ℕ, ◌≤◌, refl, arith}
 use Rattle.asn1_schema.specs.Laws.NarrowLaws.{ContentsAreNarrow}
 use Rattle.asn1_x691.specs.Limits.{AreWithin, IsNoLimit}
+use Rattle.asn1_x691.specs.Fragments.{most_fragments}
 use Rattle.asn1_x691.specs.OpenTypes.{complete}
 use Rattle.asn1_x691.specs.Laws.LimitLaws.{NarrowTypes, complete_narrow}
 use Rattle.asn1_x691.specs.Laws.TypeLimitLaws.{type_at_narrow}
 use Rattle.asn1_x691_decode.specs.declared.context.Context.{Context}
-use Rattle.asn1_x691_decode.specs.Decoding.{decoder_limits, defaults_in, types}
+use Rattle.asn1_x691_decode.specs.Decoding.{decoder_limits, most_item_fragments, defaults_in, types}
 use Rattle.asn1_x691_decode.specs.Messages.{unlimited_types}
 use Rattle.asn1_x691_decode.proofs.laws.laws_of_limits.Goals as goal
 
+few_fragments : most_item_fragments ≤ most_fragments
+unfolding most_item_fragments most_fragments
+few_fragments = omega arith
+
 within : AreWithin decoder_limits
-within = record { octet_fragments = omega arith; fragments = omega arith; sets_on_octets = refl }
+within = record { octet_fragments = omega arith; fragments = omega arith; item_fragments = few_fragments; sets_on_octets = refl }
 
 narrow : (c : Context) (depth node : ℕ) → NarrowTypes (types c depth node) (unlimited_types c depth node)
 narrow c depth node =

@@ -13,6 +13,9 @@ use Rattle.asn1_schema.specs.TypeEncodings.{TypeEncoding, several}
 use Rattle.asn1_x691.specs.declared.fault.FaultKind.{FaultKind}
 use Rattle.asn1_x691.specs.declared.fault.FaultKind.TheVariants.{BelowLeast, InRoot}
 use Rattle.asn1_x691.specs.Fields.{constrained, length_of}
+use Rattle.asn1_x691.specs.Fragments.{most_fragments}
+use Rattle.asn1_x691.specs.Lists.{IsCountable}
+use Rattle.asn1_x691_encode.specs.FragmentSteps.{list_done}
 use Rattle.asn1_x691.specs.Types.{count_from, length_at_least, IsAddedCount, added_length}
 use Rattle.asn1_x691.specs.Laws.RangeLaws.{constrained_within}
 use Rattle.asn1_x691_writers.specs.FarSteps.{length_few}
@@ -25,7 +28,7 @@ use Rattle.asn1_schema.specs.declared.part.Part.{Part}
 use Rattle.asn1_x691_encode.specs.ExtensionSteps.{root_step, added_step}
 use Rattle.asn1_x691_encode.specs.ListSteps.{list_other, item_step, item_fails, items_done, part_step}
 use Rattle.asn1_x691_encode.proofs.+encoding.Goals as goal
-use Rattle.asn1_x691_encode.proofs.+encoding.Goals.{list::encode_at_least-then-count-least-via-then-count-least, list::encode_at_least-then-count-least-via-else-count-least+then-count-ge16384}
+use Rattle.asn1_x691_encode.proofs.+encoding.Goals.{list::encode_set_at_least-then-count-least-via-then-count-least, list::encode_set_at_least-then-count-least-via-else-count-least+then-count-ge16384}
 
 pub encode_at_least-returns-then-count-least : goal.list::encode_at_least-returns-then-count-least
 encode_at_least-returns-then-count-least t c =
@@ -34,23 +37,13 @@ encode_at_least-returns-then-count-least t c =
     let n = c.args.count in
     let least = c.args.least in
     let s = c.reject.new.state in
-    let none : (at : ℕ) → CanEncode (length_at_least cx.is_aligned least node at).encodes n → ⊥ = elim c.then-count-least.branch [
-      | list::encode_at_least-then-count-least-via-then-count-least w ↦
-          λ at p.
-          let h = permitted_is (λ k. least ≤ k) (λ k. k < least) BelowLeast node (length_of cx.is_aligned node) at n p.list p.encoded in
-          omega (arith, h, w.if-count-least)
-      | list::encode_at_least-then-count-least-via-else-count-least+then-count-ge16384 w ↦
-          λ at p.
-          let q = permitted_of (λ k. least ≤ k) (λ k. k < least) BelowLeast node (length_of cx.is_aligned node) at n p.list p.encoded in
-          let few = length_few cx.is_aligned node at n q.0 q.1 in
-          omega (arith, few, w.if-count-ge16384)
-    ] in
-    let T = list_in cx c.args.depth node c.args.is_set (AtLeast least) c.args.item in
+    let T = list_in cx c.args.depth node false (AtLeast least) c.args.item in
+    let none : IsCountable most_fragments (λ k. least ≤ k) n → ⊥ = λ p. let low = p.0 in omega (arith, low, c.if-count-least.true) in
     after_put cx T (item.Count n) c.args.octets.now c.args.octets.now c.args.state.now s s c.requires.next refl refl refl c.reject.result
     c.reject.result refl
     (rejected cx.is_aligned T (Count n) c.args.octets.now c.args.state.now s c.reject.result node NoEncoding c.reject.ensures.result
     c.reject.ensures.at c.reject.ensures.next c.reject.ensures.node c.reject.ensures.reason
-    (λ at rest. inl (n, refl, inl (none at, refl))))
+    (λ at rest. inl (n, refl, inr (none, refl))))
     (λ q. absurd (let e : true ≡ false = sym q ∙ c.reject.ensures.result in cc)) (λ q. refl)
 
 pub encode_at_least-overflow_add-state : goal.list::encode_at_least-overflow_add-state
@@ -61,12 +54,56 @@ encode_at_least-overflow_add-state t c =
 pub encode_at_least-returns : goal.list::encode_at_least-returns
 encode_at_least-returns t c =
     let cx = c.args.context.now in
+    let a = c.args in
+    let n = a.count in
+    let least = a.least in
+    let old = a.state.now in
+    let mid = record old { next = old.next + 1 } in
+    let last = c.encode_numbered_items in
+    list_done cx a.depth a.node a.item (λ k. least ≤ k) (λ k. k < least) BelowLeast n a.octets.now old mid refl
+    (omega (arith, c.if-count-least.false)) c.ranges.count (part_next cx old.next (item.Count n) c.requires.next) last.new.octets last.new.state
+    last.result last.ensures
+
+pub encode_set_at_least-returns-then-count-least : goal.list::encode_set_at_least-returns-then-count-least
+encode_set_at_least-returns-then-count-least t c =
+    let cx = c.args.context.now in
+    let node = c.args.node in
+    let n = c.args.count in
+    let least = c.args.least in
+    let s = c.reject.new.state in
+    let none : (at : ℕ) → CanEncode (length_at_least cx.is_aligned least node at).encodes n → ⊥ = elim c.then-count-least.branch [
+      | list::encode_set_at_least-then-count-least-via-then-count-least w ↦
+          λ at p.
+          let h = permitted_is (λ k. least ≤ k) (λ k. k < least) BelowLeast node (length_of cx.is_aligned node) at n p.list p.encoded in
+          omega (arith, h, w.if-count-least)
+      | list::encode_set_at_least-then-count-least-via-else-count-least+then-count-ge16384 w ↦
+          λ at p.
+          let q = permitted_of (λ k. least ≤ k) (λ k. k < least) BelowLeast node (length_of cx.is_aligned node) at n p.list p.encoded in
+          let few = length_few cx.is_aligned node at n q.0 q.1 in
+          omega (arith, few, w.if-count-ge16384)
+    ] in
+    let T = list_in cx c.args.depth node true (AtLeast least) c.args.item in
+    after_put cx T (item.Count n) c.args.octets.now c.args.octets.now c.args.state.now s s c.requires.next refl refl refl c.reject.result
+    c.reject.result refl
+    (rejected cx.is_aligned T (Count n) c.args.octets.now c.args.state.now s c.reject.result node NoEncoding c.reject.ensures.result
+    c.reject.ensures.at c.reject.ensures.next c.reject.ensures.node c.reject.ensures.reason
+    (λ at rest. inl (n, refl, inl (none at, refl))))
+    (λ q. absurd (let e : true ≡ false = sym q ∙ c.reject.ensures.result in cc)) (λ q. refl)
+
+pub encode_set_at_least-overflow_add-state : goal.list::encode_set_at_least-overflow_add-state
+encode_set_at_least-overflow_add-state t c =
+    let within = slice_get_within c.args.context.now.parts.now c.args.state.now.next (item.Count c.args.count) c.requires.next in
+    omega (arith, within, c.requires.parts)
+
+pub encode_set_at_least-returns : goal.list::encode_set_at_least-returns
+encode_set_at_least-returns t c =
+    let cx = c.args.context.now in
     let node = c.args.node in
     let n = c.args.count in
     let least = c.args.least in
     let old = c.args.state.now in
     let mid = record old { at = c.put_length-state.result; next = old.next + 1 } in
-    (part_step cx (length_at_least cx.is_aligned least node) Count (λ k. items_in cx c.args.depth node c.args.is_set c.args.item k) node n
+    (part_step cx (length_at_least cx.is_aligned least node) Count (λ k. items_in cx c.args.depth node true c.args.item k) node n
     c.args.octets.now c.put_length-state.new.octets old mid
     (permitted_written cx.is_aligned (λ k. least ≤ k) (λ k. k < least) BelowLeast node (length_of cx.is_aligned node) n c.args.octets.now
     c.put_length-state.new.octets old.at c.put_length-state.result c.if-count-least.false (c.put_length-state.ensures node))
@@ -190,13 +227,21 @@ encode_items-returns t c =
     items_done cx (several E c.args.count) E c.args.octets.now c.loop-left.octets c.args.state.now c.loop-left.state c.loop-left.left
     (omega (arith, c.loop-left-test.false)) c.loop-left.invariant
 
+pub encode_list_of-returns-then-is_set : goal.list::encode_list_of-returns-then-is_set
+encode_list_of-returns-then-is_set t c =
+    let cx = c.args.context.now in
+    let k = c.encode_set_at_least in
+    let S : Length → Bool → Type 0 = λ s b. Outcome cx (list_in cx c.args.depth c.args.node b s c.args.item) c.args.octets.now c.args.state.now
+    k.new.octets k.new.state k.result in
+    subst (λ (b : Bool). S c.args.size b) (sym c.if-is_set.true) (subst (λ (s : Length). S s true) (sym c.in-AtLeast.is) k.ensures)
+
 pub encode_list_of-returns-in-AtLeast : goal.list::encode_list_of-returns-in-AtLeast
 encode_list_of-returns-in-AtLeast t c =
     let cx = c.args.context.now in
-    subst
-    (λ (s : Length). Outcome cx (list_in cx c.args.depth c.args.node c.args.is_set s c.args.item) c.args.octets.now c.args.state.now
-    c.encode_at_least.new.octets c.encode_at_least.new.state c.encode_at_least.result) (sym c.in-AtLeast.is)
-    (c.encode_at_least.ensures)
+    let k = c.encode_at_least in
+    let S : Length → Bool → Type 0 = λ s b. Outcome cx (list_in cx c.args.depth c.args.node b s c.args.item) c.args.octets.now c.args.state.now
+    k.new.octets k.new.state k.result in
+    subst (λ (b : Bool). S c.args.size b) (sym c.if-is_set.false) (subst (λ (s : Length). S s false) (sym c.in-AtLeast.is) k.ensures)
 
 pub encode_list_of-returns-in-Between : goal.list::encode_list_of-returns-in-Between
 encode_list_of-returns-in-Between t c =
@@ -220,23 +265,13 @@ encode_list_of-returns-in-None t c =
     (list_other cx c.args.depth node c.args.item c.args.is_set c.args.size p (c.in-None.ensures cx.tables.ranges.now cx.source.now)))
     (λ q. absurd (let e : true ≡ false = sym q ∙ c.reject.ensures.result in cc)) (λ q. refl)
 
-pub encode_added_list-returns-then-count-ge16384 : goal.list::encode_added_list-returns-then-count-ge16384
-encode_added_list-returns-then-count-ge16384 t c =
-    let cx = c.args.context.now in
+pub encode_added_list-returns-then-is_set : goal.list::encode_added_list-returns-then-is_set
+encode_added_list-returns-then-is_set t c =
     let a = c.args in
-    let n = a.count in
-    let k = c.reject in
-    let s = k.new.state in
-    let none : (at : ℕ) → CanEncode (added_length cx.is_aligned a.size a.node at).encodes n → ⊥ =
-    λ at p.
-    let q = permitted_of (IsAddedSize a.size) (IsOfRoot a.size) InRoot a.node (length_of cx.is_aligned a.node) at n p.list p.encoded in
-    let few = length_few cx.is_aligned a.node at n q.0 q.1 in
-    omega (arith, few, c.if-count-ge16384.true) in
-    let T = added_list_in cx a.depth a.node a.is_set a.size a.item in
-    after_put cx T (item.Count n) a.octets.now a.octets.now a.state.now s s c.requires.next refl refl refl k.result k.result refl
-    (rejected cx.is_aligned T (Count n) a.octets.now a.state.now s k.result a.node NoEncoding k.ensures.result k.ensures.at k.ensures.next
-    k.ensures.node k.ensures.reason (λ at rest. inl (n, refl, inl (none at, refl))))
-    (λ q. absurd (let e : true ≡ false = sym q ∙ k.ensures.result in cc)) (λ q. refl)
+    let k = c.encode_added_set in
+    subst
+    (λ (b : Bool). Outcome a.context.now (added_list_in a.context.now a.depth a.node b a.size a.item) a.octets.now a.state.now k.new.octets
+    k.new.state k.result) (sym c.if-is_set.true) k.ensures
 
 pub encode_added_list-overflow_add-state : goal.list::encode_added_list-overflow_add-state
 encode_added_list-overflow_add-state t c =
@@ -249,8 +284,46 @@ encode_added_list-returns t c =
     let a = c.args in
     let n = a.count in
     let old = a.state.now in
+    let mid = record old { next = old.next + 1 } in
+    let last = c.encode_numbered_items in
+    subst
+    (λ (b : Bool). Outcome cx (added_list_in cx a.depth a.node b a.size a.item) a.octets.now old last.new.octets last.new.state last.result)
+    (sym c.if-is_set.false)
+    (list_done cx a.depth a.node a.item (IsAddedSize a.size) (IsOfRoot a.size) InRoot n a.octets.now old mid refl
+    c.requires.added c.ranges.count (part_next cx old.next (item.Count n) c.requires.next) last.new.octets last.new.state
+    last.result last.ensures)
+
+pub encode_added_set-returns-then-count-ge16384 : goal.list::encode_added_set-returns-then-count-ge16384
+encode_added_set-returns-then-count-ge16384 t c =
+    let cx = c.args.context.now in
+    let a = c.args in
+    let n = a.count in
+    let k = c.reject in
+    let s = k.new.state in
+    let none : (at : ℕ) → CanEncode (added_length cx.is_aligned a.size a.node at).encodes n → ⊥ =
+    λ at p.
+    let q = permitted_of (IsAddedSize a.size) (IsOfRoot a.size) InRoot a.node (length_of cx.is_aligned a.node) at n p.list p.encoded in
+    let few = length_few cx.is_aligned a.node at n q.0 q.1 in
+    omega (arith, few, c.if-count-ge16384.true) in
+    let T = added_list_in cx a.depth a.node true a.size a.item in
+    after_put cx T (item.Count n) a.octets.now a.octets.now a.state.now s s c.requires.next refl refl refl k.result k.result refl
+    (rejected cx.is_aligned T (Count n) a.octets.now a.state.now s k.result a.node NoEncoding k.ensures.result k.ensures.at k.ensures.next
+    k.ensures.node k.ensures.reason (λ at rest. inl (n, refl, inl (none at, refl))))
+    (λ q. absurd (let e : true ≡ false = sym q ∙ k.ensures.result in cc)) (λ q. refl)
+
+pub encode_added_set-overflow_add-state : goal.list::encode_added_set-overflow_add-state
+encode_added_set-overflow_add-state t c =
+    let within = slice_get_within c.args.context.now.parts.now c.args.state.now.next (item.Count c.args.count) c.requires.next in
+    omega (arith, within, c.requires.parts)
+
+pub encode_added_set-returns : goal.list::encode_added_set-returns
+encode_added_set-returns t c =
+    let cx = c.args.context.now in
+    let a = c.args in
+    let n = a.count in
+    let old = a.state.now in
     let mid = record old { at = c.put_length-state.result; next = old.next + 1 } in
-    (part_step cx (added_length cx.is_aligned a.size a.node) Count (λ k. items_in cx a.depth a.node a.is_set a.item k) a.node n
+    (part_step cx (added_length cx.is_aligned a.size a.node) Count (λ k. items_in cx a.depth a.node true a.item k) a.node n
     a.octets.now c.put_length-state.new.octets old mid
     (permitted_written cx.is_aligned (IsAddedSize a.size) (IsOfRoot a.size) InRoot a.node (length_of cx.is_aligned a.node) n a.octets.now
     c.put_length-state.new.octets old.at c.put_length-state.result c.requires.added (c.put_length-state.ensures a.node))

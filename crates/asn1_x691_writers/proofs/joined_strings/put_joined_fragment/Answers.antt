@@ -1,45 +1,19 @@
-use Rattle.std.proofs.Common.{◌≡◌, ◌+◌, ◌*◌, ◌-◌, inl, inr, refl, arith}
+use Rattle.std.proofs.Common.{◌*◌}
 use Rattle.asn1_bits.specs.Bits.{bits}
-use Rattle.asn1_schema.specs.Encodings.{number, anywhere}
 use Rattle.asn1_schema.specs.PiecesOfParts.{bits_at}
-use Rattle.asn1_x691.specs.declared.fault.FaultKind.TheVariants.{Short}
-use Rattle.asn1_x691.specs.Fragments.{units_octets, units_after}
 use Rattle.asn1_x691_fields.specs.Steps.{front_length}
-use Rattle.asn1_x691_writers.specs.Written.{IsWritten}
 use Rattle.asn1_x691_writers.specs.Joined.{bits_in}
-use Rattle.asn1_x691_writers.specs.FieldSteps.{number_written, then_constant, octet_written}
 use Rattle.asn1_x691_writers.specs.StringSteps.{raw_written}
 use Rattle.asn1_x691_writers.proofs.joined_strings.put_joined_fragment.Goals as goal
 
 pub returns : goal.returns
 returns c node =
-    let aligned = c.args.is_aligned in
-    let times = c.args.times in
-    let n = 16384 * times in
-    let was = c.args.octets.now in
-    let mid = c.put_start-start.new.octets in
-    let next = c.put_number-after.new.octets in
-    let now = c.put_joined.new.octets in
+    let n = 16384 * c.args.times in
     let list = bits_in (bits c.args.source.now) c.args.joined.now in
-    let size = front_length list c.args.from (8 * n) c.requires.within in
-    let same : n ≡ 16384 * (192 + times - 192) = omega arith in
-    let first : IsWritten aligned (anywhere (units_octets node)) n mid c.put_start-start.result next c.put_number-after.result =
-    then_constant aligned mid next c.put_start-start.result c.put_number-after.result (number 8 Short node) (λ first n. n)
-    (λ first. units_after node first) (192 + times) n
-    (number_written aligned 8 node Short (192 + times) mid next c.put_start-start.result c.put_number-after.result
-    (omega (arith, c.requires.few)) c.put_number-after.ensures)
-    (inr (
-      omega arith,
-      inr (
-        omega arith,
-        inl ((omega (arith, c.requires.some), omega (arith, c.requires.few)), (same, refl)),
-      ),
-    )) in
     record {
-      between = next;
-      at = c.put_number-after.result;
-      count = octet_written node (units_octets node) n was mid next c.args.at c.put_start-start.result c.put_number-after.result aligned
-          c.put_start-start.ensures first;
-      units = raw_written aligned (8 * n) node (bits_at list c.args.from (8 * n)) next now
-          c.put_number-after.result c.put_joined.result size c.put_joined.ensures;
+      between = c.put_fragment_number-after.new.octets;
+      at = c.put_fragment_number-after.result;
+      count = c.put_fragment_number-after.ensures node;
+      units = raw_written c.args.is_aligned (8 * n) node (bits_at list c.args.from (8 * n)) c.put_fragment_number-after.new.octets c.put_joined.new.octets
+          c.put_fragment_number-after.result c.put_joined.result (front_length list c.args.from (8 * n) c.requires.within) c.put_joined.ensures;
     }
