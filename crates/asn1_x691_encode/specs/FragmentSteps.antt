@@ -27,7 +27,7 @@ module _ (c : Context) (depth node item : ℕ) where
   abbrev Number : ℕ → ℕ → TypeEncoding FaultKind
   Number n = number_of_units A c.is_aligned node n
 
-  abbrev Fragment : ℕ → (ℕ → TypeEncoding FaultKind) → ℕ → TypeEncoding FaultKind
+  abbrev pub Fragment : ℕ → (ℕ → TypeEncoding FaultKind) → ℕ → TypeEncoding FaultKind
   Fragment n R = fragment_then A c.is_aligned node n R
 
   -- the number of the items that follow

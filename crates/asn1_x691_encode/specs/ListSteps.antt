@@ -134,5 +134,6 @@ module _ (c : Context) where
 pub list_other : (c : Context) (depth node item : ℕ) (is_set : Bool) (size : Length) (p : Piece) → ((n : ℕ) → p ≡ Count n → ⊥)
     → (at : ℕ) (rest : Parts)
     → (list_in c depth node is_set size item at).misfit (p ∷ rest) (record { node = node; left = length (p ∷ rest); kind = OtherPart })
-list_other c depth node item is_set (AtLeast least) p f at rest = inr (f, refl)
+list_other c depth node item false (AtLeast least) p f at rest = inr (f, refl)
+list_other c depth node item true (AtLeast least) p f at rest = inr (f, refl)
 list_other c depth node item is_set (Between least range) p f at rest = inr (λ d e. f (least + d) e, refl)

@@ -6,7 +6,7 @@
 //! rows are made by `scripts/x691-vectors`, with another compiler, and by `scripts/x691-model`. A row of
 //! `uper-error` has the text of the fault. A row of `uper-as` has two types: a value of the first is
 //! encoded as one of the second; in a row of `uper-short`, into no octets, and the answer is how many
-//! it needs.
+//! it needs. The answer to a row of `uper-many` is how many parts there are.
 #![tactic(auto)]
 
 use asn1_schema::{Part, Tables};
@@ -22,18 +22,31 @@ use std::process::ExitCode;
 /// How many parts a value of a row has at most.
 const ROOM: usize = 1_000;
 
+/// How many parts a value has at most whose answer is their number.
+const MANY: usize = 300_000;
+
+/// How a row is answered.
+#[derive(Clone, Copy, PartialEq)]
+enum Form {
+    /// With the parts, or the fault.
+    Parts,
+    /// With the parts, or the text of the fault.
+    Words,
+    /// With the number of the parts, or the fault.
+    Number,
+}
+
 /// How many octets a message of a row of two types has at most.
 const LARGE: usize = 1_000;
 
 /// How deep a value of a row is nested at most.
 const DEPTH: usize = 100;
 
-/// Decodes octets by a schema, and returns the parts or the fault; the fault by its text, if so
-/// asked.
+/// Decodes octets by a schema, and returns the answer of a form.
 fn decoded<'a>(
     alloc: Global,
     is_aligned: bool,
-    in_words: bool,
+    form: Form,
     octets: &'a [u8],
     schema: &'a Schema,
 ) -> Result<String, RowError> {
@@ -46,7 +59,8 @@ fn decoded<'a>(
         octets,
         is_aligned,
     };
-    let mut room = vec![in alloc; Part::Absent; ROOM]?;
+    let most = if form == Form::Number { MANY } else { ROOM };
+    let mut room = vec![in alloc; Part::Absent; most]?;
     match decode(&context, DEPTH, schema.node, room.as_mut_slice()) {
         Ok(count) => {
             if let Some(parts) = room.as_slice().get(..count)
@@ -54,13 +68,16 @@ fn decoded<'a>(
             {
                 return Err(wrong(alloc, "the value", "value that is encoded as the message"));
             }
+            if form == Form::Number {
+                return Ok(format!(in alloc; "{count} parts")?);
+            }
             let source = Source {
                 octets,
                 ranges: schema.ranges.as_slice(),
             };
             text_of(alloc, source, room.as_slice(), count)
         }
-        Err(fault) if in_words => Ok(format!(in alloc; "{fault}")?),
+        Err(fault) if form == Form::Words => Ok(format!(in alloc; "{fault}")?),
         Err(fault) => {
             let kind = fault.kind;
             let node = fault.node;
@@ -79,7 +96,7 @@ fn is_encoded_again(
     parts: &[Part],
 ) -> Result<bool, RowError> {
     let octets = context.octets;
-    if parts.len() > ROOM || octets.len() > 1_000_000 {
+    if parts.len() > MANY || octets.len() > 1_000_000 {
         return Ok(false);
     }
     let value = Value {
@@ -202,17 +219,19 @@ impl Answers for Calls {
             return Err(wrong(alloc, call, "call with octets"));
         };
         let message = octets(alloc, message)?;
-        let (is_aligned, in_words) = match call {
-            "uper" => (false, false),
-            "aper" => (true, false),
-            "uper-error" => (false, true),
+        let (is_aligned, form) = match call {
+            "uper" => (false, Form::Parts),
+            "aper" => (true, Form::Parts),
+            "uper-error" => (false, Form::Words),
+            "uper-many" => (false, Form::Number),
+            "aper-many" => (true, Form::Number),
             "uper-as" => return answer_as(alloc, false, LARGE, message.as_slice(), words),
             "aper-as" => return answer_as(alloc, true, LARGE, message.as_slice(), words),
             "uper-short" => return answer_as(alloc, false, 0, message.as_slice(), words),
             _ => return Err(wrong(alloc, call, "variant")),
         };
         let schema = schema_of(alloc, is_aligned, words)?;
-        decoded(alloc, is_aligned, in_words, message.as_slice(), &schema)
+        decoded(alloc, is_aligned, form, message.as_slice(), &schema)
     }
 }
 

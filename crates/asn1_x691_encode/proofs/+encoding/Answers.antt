@@ -372,8 +372,8 @@ list::encode_set_at_least-returns = lists.encode_set_at_least-returns
 pub list::encode_list_of-returns-then-is_set : goal.list::encode_list_of-returns-then-is_set
 list::encode_list_of-returns-then-is_set = lists.encode_list_of-returns-then-is_set
 
-pub list::encode_list_of-returns-in-AtLeast : goal.list::encode_list_of-returns-in-AtLeast
-list::encode_list_of-returns-in-AtLeast = lists.encode_list_of-returns-in-AtLeast
+pub list::encode_list_of-returns-else-is_set : goal.list::encode_list_of-returns-else-is_set
+list::encode_list_of-returns-else-is_set = lists.encode_list_of-returns-else-is_set
 
 pub list::encode_added_list-returns-then-is_set : goal.list::encode_added_list-returns-then-is_set
 list::encode_added_list-returns-then-is_set = lists.encode_added_list-returns-then-is_set

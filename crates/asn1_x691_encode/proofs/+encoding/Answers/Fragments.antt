@@ -29,7 +29,7 @@ encode_items_below-returns-then-not-encode_items t c =
     let r = n % 16384 in
     let put = c.put_fragment_number-state in
     let mid = record old { at = put.result } in
-    let one = c.encode_items in
+    let one = c.encode_items-2 in
     steps.more_items cx a.depth a.node a.item n a.octets.now one.new.octets old one.new.state false (omega (arith, c.if-count-lt16384.false))
     (steps.fragment_fails cx a.depth a.node a.item m (steps.Fragment cx a.depth a.node a.item r nothing) a.octets.now put.new.octets old mid
     (put.ensures a.node) refl one.new.octets one.new.state
@@ -46,10 +46,10 @@ encode_items_below-returns t c =
     let r = n % 16384 in
     let put = c.put_fragment_number-state in
     let mid = record old { at = put.result } in
-    let one = c.encode_items in
+    let one = c.encode_items-2 in
     let more = c.put_number_of_units-state-2 in
     let far = record one.new.state { at = more.result } in
-    let last = c.encode_items-2 in
+    let last = c.encode_items-3 in
     steps.more_items cx a.depth a.node a.item n a.octets.now last.new.octets old last.new.state last.result (omega (arith, c.if-count-lt16384.false))
     ((steps.fragment_step cx a.depth a.node a.item m (steps.Fragment cx a.depth a.node a.item r nothing) a.octets.now put.new.octets old mid
     (put.ensures a.node) refl one.new.octets one.new.state

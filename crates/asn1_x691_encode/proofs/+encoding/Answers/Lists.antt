@@ -61,7 +61,7 @@ encode_at_least-returns t c =
     let mid = record old { next = old.next + 1 } in
     let last = c.encode_numbered_items in
     list_done cx a.depth a.node a.item (λ k. least ≤ k) (λ k. k < least) BelowLeast n a.octets.now old mid refl
-    (omega (arith, c.if-count-least.false)) c.ranges.count (part_next cx old.next (item.Count n) c.requires.next) last.new.octets last.new.state
+    (omega (arith, c.if-count-least.false)) c.ranges.count.fits (part_next cx old.next (item.Count n) c.requires.next) last.new.octets last.new.state
     last.result last.ensures
 
 pub encode_set_at_least-returns-then-count-least : goal.list::encode_set_at_least-returns-then-count-least
@@ -235,8 +235,8 @@ encode_list_of-returns-then-is_set t c =
     k.new.octets k.new.state k.result in
     subst (λ (b : Bool). S c.args.size b) (sym c.if-is_set.true) (subst (λ (s : Length). S s true) (sym c.in-AtLeast.is) k.ensures)
 
-pub encode_list_of-returns-in-AtLeast : goal.list::encode_list_of-returns-in-AtLeast
-encode_list_of-returns-in-AtLeast t c =
+pub encode_list_of-returns-else-is_set : goal.list::encode_list_of-returns-else-is_set
+encode_list_of-returns-else-is_set t c =
     let cx = c.args.context.now in
     let k = c.encode_at_least in
     let S : Length → Bool → Type 0 = λ s b. Outcome cx (list_in cx c.args.depth c.args.node b s c.args.item) c.args.octets.now c.args.state.now
@@ -290,7 +290,7 @@ encode_added_list-returns t c =
     (λ (b : Bool). Outcome cx (added_list_in cx a.depth a.node b a.size a.item) a.octets.now old last.new.octets last.new.state last.result)
     (sym c.if-is_set.false)
     (list_done cx a.depth a.node a.item (IsAddedSize a.size) (IsOfRoot a.size) InRoot n a.octets.now old mid refl
-    c.requires.added c.ranges.count (part_next cx old.next (item.Count n) c.requires.next) last.new.octets last.new.state
+    c.requires.added c.ranges.count.fits (part_next cx old.next (item.Count n) c.requires.next) last.new.octets last.new.state
     last.result last.ensures)
 
 pub encode_added_set-returns-then-count-ge16384 : goal.list::encode_added_set-returns-then-count-ge16384

@@ -83,6 +83,7 @@ encode_next-returns t c before g =
     let follows = follows_alike cx a.depth a.node a.item g in
     let p = subst (λ (l : List Bool). (types cx a.depth a.item g.begun.at).encoding.encodes g.encoded.parts l) g.bits
     (g.encoded.written.encodes g.begun.at (λ q. refl)) in
+    let here : (types cx a.depth a.item old.at).encoding.encodes e.parts e.written.list = e.written.encodes old.at (λ q. refl) in
     next_on cx a.depth a.node a.item before g.begun.at g.encoded.parts p a.octets.now k.new.octets old k.new.state m.new.state e follows m.result
     m.ensures.kept
     (m.ensures.ordered old.at g.encoded.parts e.parts (tape cx k.new.state.next) before e.written.list
@@ -90,7 +91,7 @@ encode_next-returns t c before g =
     (alike_back cx.is_aligned (g.begun.at + length before) old.at follows))
     (subst (λ (n : ℕ). (types cx a.depth a.item n).encoding.encodes g.encoded.parts before) g.at p)
     (subst (λ (n : ℕ). tape cx n ≡ g.encoded.parts ++ tape cx old.next) g.next g.encoded.taken)
-    (e.written.encodes old.at (λ q. refl)) e.taken)
+    here e.taken)
 
 -- ---- in octets of their own
 

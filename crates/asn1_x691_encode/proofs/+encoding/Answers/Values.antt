@@ -1,7 +1,7 @@
 -- Answers for the encoders of src/value.rt.
 use Rattle.std.proofs.Common.{◌≡◌, ℕ, ◌-◌, ◌%◌, Bool, true, false, List, [], refl, sym, ◌∙◌, ap, subst, inl, inr, arith}
 use Rattle.asn1_x691_encode.specs.Compared.{IsDefaultAt, IsCompared}
-use Rattle.asn1_x691_encode.specs.Encoding.{Outcome, tape, value_in}
+use Rattle.asn1_x691_encode.specs.Encoding.{Outcome, tape, types, value_in}
 use Rattle.asn1_x691_encode.specs.OtherSteps.{alike_bit, same_default, other_default, left_same, other_fails, other_encoded, other_misfit, compared, again_left, again_same, again_wide}
 use Rattle.asn1_x691_encode.specs.PlaceSteps.{placed, found, ends_after}
 use Rattle.asn1_schema.specs.declared.tables.Presence.TheVariants as presence
@@ -23,9 +23,9 @@ encode_other_than-returns-then-not-is_in t c =
     let k = c.encode_node in
     let m = c.is_other in
     let e = c.if-not-encode_node.ensures in
+    let here : (types cx a.depth a.inner a.state.now.at).encoding.encodes e.parts e.written.list = e.written.encodes a.state.now.at (λ q. refl) in
     compared cx a.depth a.node a.value a.inner a.octets.now k.new.octets a.state.now k.new.state m.new.state e m.result m.ensures.kept
-    (m.ensures.compared a.state.now.at e.parts (tape cx k.new.state.next) e.written.list (λ q. refl)
-    (e.written.encodes a.state.now.at (λ q. refl)) e.taken)
+    (m.ensures.compared a.state.now.at e.parts (tape cx k.new.state.next) e.written.list (λ q. refl) here e.taken)
 
 pub encode_other_than-returns-then-is_default : goal.value::encode_other_than-returns-then-is_default
 encode_other_than-returns-then-is_default t c =
