@@ -45,8 +45,8 @@ pub fn put_number_of_units(octets: &mut [u8], at: usize, is_aligned: bool, n: us
     requires few { n < 16384 }
     ensures { (node : ℕ) → IsWritten is_aligned (units_next is_aligned node) n octets.old at octets.new result }
 {
-    let start = put_start(octets, at, is_aligned);
-    put_length_octets(octets, start, n)
+    let octet = put_start(octets, at, is_aligned);
+    put_length_octets(octets, octet, n)
 }
 
 /// Writes the number of the units of a fragment, `times` times 16,384 (X.691 11.9.3.8). Returns the
@@ -57,8 +57,8 @@ pub fn put_fragment_number(octets: &mut [u8], at: usize, is_aligned: bool, times
     requires few { times ≤ 4 }
     ensures { (node : ℕ) → IsWritten is_aligned (units_next is_aligned node) (16384 * times) octets.old at octets.new result }
 {
-    let start = put_start(octets, at, is_aligned);
-    put_number(octets, start, 192 + times as u64, 8)
+    let octet = put_start(octets, at, is_aligned);
+    put_number(octets, octet, 192 + times as u64, 8)
 }
 
 /// Writes a normally small length, which must be from 1 to 16,383 (X.691 11.9.3.4). Returns the

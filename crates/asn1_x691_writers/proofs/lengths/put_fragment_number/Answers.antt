@@ -11,13 +11,13 @@ returns c node =
     let aligned = c.args.is_aligned in
     let times = c.args.times in
     let n = 16384 * times in
-    let mid = c.put_start-start.new.octets in
+    let mid = c.put_start-octet.new.octets in
     let next = c.put_number.new.octets in
     let same : n ≡ 16384 * (192 + times - 192) = omega arith in
-    let first : IsWritten aligned (anywhere (units_octets node)) n mid c.put_start-start.result next c.put_number.result =
-    then_constant aligned mid next c.put_start-start.result c.put_number.result (number 8 Short node) (λ first n. n)
+    let first : IsWritten aligned (anywhere (units_octets node)) n mid c.put_start-octet.result next c.put_number.result =
+    then_constant aligned mid next c.put_start-octet.result c.put_number.result (number 8 Short node) (λ first n. n)
     (λ first. units_after node first) (192 + times) n
-    (number_written aligned 8 node Short (192 + times) mid next c.put_start-start.result c.put_number.result
+    (number_written aligned 8 node Short (192 + times) mid next c.put_start-octet.result c.put_number.result
     (omega (arith, c.requires.few)) c.put_number.ensures)
     (inr (
       omega arith,
@@ -26,5 +26,5 @@ returns c node =
         inl ((omega (arith, c.requires.some), omega (arith, c.requires.few)), (same, refl)),
       ),
     )) in
-    octet_written node (units_octets node) n c.args.octets.now mid next c.args.at c.put_start-start.result c.put_number.result aligned
-    c.put_start-start.ensures first
+    octet_written node (units_octets node) n c.args.octets.now mid next c.args.at c.put_start-octet.result c.put_number.result aligned
+    c.put_start-octet.ensures first
