@@ -1,7 +1,7 @@
 -- What a decoder or an encoder leaves out of the definition. Where a value exceeds a limit, the fault is `Unsupported`, and the limits
 -- are part of the definition, so that it is known exactly where that fault is. The definition itself has no fragments (X.691 11.9.3.8) of
 -- two types: a SET OF of 16,384 items or more, and an INTEGER of as many octets, have no encoding in it.
-use Rattle.std.specs.Prelude.{ℕ, Bool, true, false, ◌%◌, ◌≡◌, ◌≢◌, ◌<◌, ◌≤◌, ◌⊎◌, List, length}
+use Rattle.std.specs.Prelude.{ℕ, Bool, true, false, ◌%◌, ◌≡◌, ◌≢◌, ◌<◌, ◌≤◌, ◌⊎◌, List, [], length}
 use Rattle.asn1_x691.specs.declared.fault.FaultKind.{FaultKind}
 use Rattle.asn1_x691.specs.declared.fault.FaultKind.TheVariants.{Unsupported}
 use Rattle.asn1_x691.specs.Fragments.{most_fragments}
@@ -11,20 +11,27 @@ pub record Limits : Type 0 where
   pub octet_fragments : ℕ
   -- the same of all other strings, of open types and of unknown additions
   pub fragments : ℕ
-  -- the same of the items of a SEQUENCE OF
+  -- the same of the items of a SEQUENCE OF, and whether the items of a fragment must have bits: otherwise each octet of a message
+  -- can tell of 65,536 items
   pub item_fragments : ℕ
+  pub fragments_have_bits : Bool
   -- in the ALIGNED variant, whether the items of a SET OF must begin at octets
   pub sets_on_octets : Bool
 
 -- without limits
 abbrev pub no_limits : Limits
-no_limits = record { octet_fragments = most_fragments; fragments = most_fragments; item_fragments = most_fragments; sets_on_octets = false }
+no_limits = record { octet_fragments = most_fragments; fragments = most_fragments; item_fragments = most_fragments; fragments_have_bits = false; sets_on_octets = false }
 
 -- an item of a SET OF, or the one whose bits precede it, does not begin at an octet
 abbrev pub IsOffOctet : Bool → Bool → List Bool → ℕ → Type 0
 IsOffOctet false aligned before at = ⊥
 IsOffOctet true false before at = ⊥
 IsOffOctet true true before at = (0 < length before) × ((at % 8 ≢ 0) ⊎ (length before % 8 ≢ 0))
+
+-- a fragment of items that have no bits
+abbrev pub IsEmptyFragment : Bool → ℕ → List Bool → Type 0
+IsEmptyFragment false n list = ⊥
+IsEmptyFragment true n list = (16384 ≤ n) × (list ≡ [])
 
 -- limits that the laws compare with X.691: there are no more fragments, and a SET OF is limited to octets
 pub record AreWithin (limits : Limits) : Type 0 where

@@ -23,7 +23,7 @@ use Rattle.asn1_x691.specs.declared.fault.FaultKind.TheVariants.{Short, BelowLea
 use Rattle.asn1_x691.specs.Fields.{phase, constrained, length_of, small_length, small_number}
 use Rattle.asn1_x691.specs.Fragments.{octets}
 use Rattle.asn1_x691.specs.Strings.{bit, IsOfRoot, IsAddedSize}
-use Rattle.asn1_x691.specs.Limits.{Limits, IsOffOctet}
+use Rattle.asn1_x691.specs.Limits.{Limits, IsOffOctet, IsEmptyFragment}
 use Rattle.asn1_x691.specs.OpenTypes.{open_type}
 use Rattle.asn1_x691.specs.Lists.{list_where}
 use Rattle.asn1_x691.specs.Contents.{IsObjectIdentifier, IsRelativeIdentifier, IsUtf8Text}
@@ -184,10 +184,15 @@ module _ (limits : Limits) (aligned : Bool) (E : ℕ → ℕ → TypeEncoding Fa
   items false item n = several (E item) n
   items true item n = several_by_bits (in_order item) [] n
 
+  -- so many items of a SEQUENCE OF in a fragment, or after all fragments
+  abbrev pub fragment_items : ℕ → ℕ → ℕ → TypeEncoding FaultKind
+  fragment_items item n at =
+      except_type (λ list. IsEmptyFragment limits.fragments_have_bits n list) Unsupported misfit.Unsupported node (several (E item) n at)
+
   -- the items after their number: those of a SEQUENCE OF in fragments from 16,384 on, of a SET OF fewer
   abbrev pub items_at_least : Bool → ℕ → ℕ → ℕ → TypeEncoding FaultKind
   items_at_least false least item =
-      list_where (items false item) aligned node limits.item_fragments (λ n. least ≤ n) (λ n. n < least) BelowLeast
+      list_where (fragment_items item) aligned node limits.item_fragments (λ n. least ≤ n) (λ n. n < least) BelowLeast
   items_at_least true least item = part (length_at_least aligned least node) Count (λ n. items true item n) node
 
   -- the number of the items, and the items
@@ -199,7 +204,7 @@ module _ (limits : Limits) (aligned : Bool) (E : ℕ → ℕ → TypeEncoding Fa
   -- a number of items that is none of the root, and the items
   abbrev pub added_items : Bool → Length → ℕ → ℕ → TypeEncoding FaultKind
   added_items false size item =
-      list_where (items false item) aligned node limits.item_fragments (IsAddedSize size) (IsOfRoot size) InRoot
+      list_where (fragment_items item) aligned node limits.item_fragments (IsAddedSize size) (IsOfRoot size) InRoot
   added_items true size item = part (added_length aligned size node) Count (λ n. items true item n) node
 
   -- a bit 0 and a number of the root, or a bit 1 and any other number, as without bounds (20.4)

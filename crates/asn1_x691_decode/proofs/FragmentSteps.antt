@@ -9,7 +9,6 @@ use Rattle.asn1_schema.specs.Room.{IsGrown}
 use Rattle.asn1_schema.specs.Encodings.{Fault, Encoding, Starts, IsAt, constant, invalid, in_turn, in_case, anywhere}
 use Rattle.asn1_x691.specs.declared.fault.FaultKind.{FaultKind}
 use Rattle.asn1_x691.specs.declared.fault.FaultKind.TheVariants.{NotMinimal, Unsupported}
-use Rattle.asn1_schema.specs.TypeEncodings.{several}
 use Rattle.asn1_x691.specs.Fragments.{units_next, units, units_then}
 use Rattle.asn1_x691.specs.Lists.{list_where}
 use Rattle.asn1_x691.specs.Strings.{where_size}
@@ -18,7 +17,7 @@ use Rattle.asn1_x691_fields.specs.Outcomes.{rest, position, fault_of, IsWithin, 
 use Rattle.asn1_x691_fields.specs.Steps.{constant_starts, after_starts, after_fault, moved_on}
 use Rattle.asn1_x691_fields.specs.StringSteps.{starts_by}
 use Rattle.asn1_x691_decode.specs.declared.context.Context.{Context}
-use Rattle.asn1_x691_decode.specs.Decoding.{IsDecoded, AreDecoded, AreListed, types, items_in, numbered_in, last_items_in}
+use Rattle.asn1_x691_decode.specs.Decoding.{IsDecoded, AreDecoded, AreListed, fragment_in, numbered_in, last_items_in}
 use Rattle.asn1_x691_decode.proofs.Steps.{grown_over}
 
 abbrev pub Numbered : Type 1
@@ -65,7 +64,7 @@ module _ (c : Context) where
 
   module _ (depth node item : ℕ) where
     abbrev U : ℕ → ℕ → Encoding FaultKind Parts
-    U n at = (items_in c depth item n at).encoding
+    U n at = (fragment_in c depth node item n at).encoding
 
     abbrev J : Parts → Parts → Parts
     J xs ys = xs ++ ys
@@ -191,7 +190,7 @@ module _ (c : Context) where
 
     module _ (Yes No : ℕ → Type 0) (kind : FaultKind) (most : ℕ) where
       abbrev pub Listed : ℕ → Encoding FaultKind Parts
-      Listed at = (list_where (λ n. several (types c depth item) n) c.is_aligned node most Yes No kind at).encoding
+      Listed at = (list_where (fragment_in c depth node item) c.is_aligned node most Yes No kind at).encoding
 
       abbrev Size : ℕ × Parts → ℕ → Encoding FaultKind Parts
       Size v = where_size Yes No kind node (v.0, Count v.0 ∷ v.1)

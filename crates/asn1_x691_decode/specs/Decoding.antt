@@ -21,7 +21,7 @@ use Rattle.asn1_x691.specs.OpenTypes.{padding, complete, open_type}
 use Rattle.asn1_x691.specs.Fragments.{most_fragments, units_below}
 use Rattle.asn1_x691.specs.Lists.{numbered_items}
 use Rattle.asn1_x691.specs.Limits.{Limits}
-use Rattle.asn1_x691.specs.Types.{type_at, type_of, value_by, components, root_of, sequence_by, extension, addition, additions_by_bits, known_addition, sequence_of_by, sequence_of, items_at_least, added_items, in_order, items, choice, choice_by, choice_extension}
+use Rattle.asn1_x691.specs.Types.{type_at, type_of, value_by, components, root_of, sequence_by, extension, addition, additions_by_bits, known_addition, sequence_of_by, sequence_of, fragment_items, items_at_least, added_items, in_order, items, choice, choice_by, choice_extension}
 use Rattle.asn1_x691_fields.specs.declared.state.State.{State}
 use Rattle.asn1_x691_fields.specs.Defaults.{default_in}
 use Rattle.asn1_x691_fields.specs.Outcomes.{rest, position, fault_of}
@@ -35,10 +35,10 @@ use Rattle.asn1_schema.specs.Room.{IsGrown}
 unfoldable pub most_item_fragments : ℕ
 most_item_fragments = 4294967296
 
--- the limits of the decoder: fragments of an OCTET STRING and of a SEQUENCE OF alone, and items of a SET OF that begin at octets in the
--- ALIGNED variant
+-- the limits of the decoder: fragments of an OCTET STRING, and of a SEQUENCE OF whose items have bits, alone; and items of a SET OF that
+-- begin at octets in the ALIGNED variant
 abbrev pub decoder_limits : Limits
-decoder_limits = record { octet_fragments = most_fragments; fragments = 0; item_fragments = most_item_fragments; sets_on_octets = true }
+decoder_limits = record { octet_fragments = most_fragments; fragments = 0; item_fragments = most_item_fragments; fragments_have_bits = true; sets_on_octets = true }
 
 -- the bits that encode a default value after so many bits of an octet
 abbrev pub defaults_in : Context → ℕ → ℕ → Option (List Bool)
@@ -157,13 +157,16 @@ module _ (c : Context) (depth node : ℕ) where
   abbrev pub added_list_in : Bool → Length → ℕ → ℕ → TypeEncoding FaultKind
   added_list_in = added_items decoder_limits c.is_aligned (types c depth) c.tables.members.now c.tables.ranges.now defaults node
 
+  -- so many items in a fragment, or after all fragments
+  abbrev pub fragment_in : ℕ → ℕ → ℕ → TypeEncoding FaultKind
+  fragment_in = fragment_items decoder_limits c.is_aligned (types c depth) c.tables.members.now c.tables.ranges.now defaults node
+
   -- items after their number, in so many fragments at most; and the last ones, where a fragment has a fault of a kind
   abbrev pub numbered_in : ℕ → ℕ → ℕ → Encoding FaultKind (ℕ × Parts)
-  numbered_in item most = numbered_items (λ n. several (types c depth item) n) c.is_aligned node most
+  numbered_in item most = numbered_items (fragment_in item) c.is_aligned node most
 
   abbrev pub last_items_in : ℕ → FaultKind → ℕ → Encoding FaultKind (ℕ × Parts)
-  last_items_in item kind =
-      units_below (λ n at. (several (types c depth item) n at).encoding) (λ xs ys. xs ++ ys) c.is_aligned node kind
+  last_items_in item kind = units_below (λ n at. (fragment_in item n at).encoding) (λ xs ys. xs ++ ys) c.is_aligned node kind
 
   -- an item that is not before the one of these bits, and so many of them
   abbrev pub in_order_in : ℕ → List Bool → ℕ → TypeEncoding FaultKind

@@ -1,10 +1,12 @@
 //! Decodes items of a SEQUENCE OF after their number, in fragments from 16,384 items on (X.691
 //! 11.9.3.8, 20.6).
 
-ghost use Rattle.std.specs.Prelude.{◌≡◌, ◌≤◌, ◌<◌, ◌^◌, ◌*◌, ◌+◌, ◌-◌, length, IfSome};
+ghost use Rattle.std.specs.Prelude.{◌≡◌, ◌≤◌, ◌<◌, ◌^◌, ◌*◌, ◌+◌, ◌-◌, List, Bool, true, length, IfSome};
+ghost use Rattle.std.specs.Bool.{Decides};
 ghost use Rattle.asn1_bits.specs.Bits.{bits};
+ghost use Rattle.asn1_x691.specs.Limits.{IsEmptyFragment};
 ghost use Rattle.asn1_x691_fields.specs.Outcomes.{IsWithin, IsMoved, IsPlaced};
-ghost use Rattle.asn1_x691_decode.specs.Decoding.{OutcomeOfItems, OutcomeOfList, numbered_in, last_items_in, most_item_fragments};
+ghost use Rattle.asn1_x691_decode.specs.Decoding.{Outcome, OutcomeOfItems, OutcomeOfList, fragment_in, numbered_in, last_items_in, most_item_fragments};
 
 use crate::context::Context;
 use crate::list::decode_items;
@@ -67,7 +69,7 @@ fn decode_numbered_items(
         else {
             return None;
         };
-        if !decode_items(context, depth, item, count, state, parts) {
+        if !decode_fragment(context, depth, node, item, count, state, parts) {
             return None;
         }
         if count < 16384 {
@@ -117,8 +119,46 @@ fn decode_last_items(
         fail(state, node, kind);
         return None;
     }
-    if !decode_items(context, depth, item, count, state, parts) {
+    if !decode_fragment(context, depth, node, item, count, state, parts) {
         return None;
     }
     Some(count)
+}
+
+/// Decodes the items after a number. A fragment whose items have no bits exceeds a limit: each octet of
+/// a message could tell of 65,536 items.
+#[cycle(decoding)]
+fn decode_fragment(
+    context: &Context<'_>,
+    depth: usize,
+    node: usize,
+    item: usize,
+    count: usize,
+    state: &mut State,
+    parts: &mut [Part],
+) -> bool
+    requires size { 8 * length context.now.octets.now < 2 ^ 64 }
+    requires within { IsWithin (bits context.now.octets.now) state.old }
+    requires placed { IsPlaced context.now.is_aligned state.old }
+    ensures moved { IsMoved (bits context.now.octets.now) state.old state.new }
+    ensures did { Outcome context.now (λ at. (fragment_in context.now depth node item count at).encoding)
+        state.old state.new parts.old parts.new result }
+{
+    let (from, before) = (state.at, state.count);
+    if !decode_items(context, depth, item, count, state, parts) {
+        return false;
+    }
+    if is_empty_fragment(count, state.at - from) {
+        state.count = before;
+        fail(state, node, FaultKind::Unsupported);
+        return false;
+    }
+    true
+}
+
+/// Returns whether so many items, of so many bits together, are a fragment of items without bits.
+fn is_empty_fragment(count: usize, size: usize) -> bool
+    ensures { (list : List Bool) → length list ≡ size → Decides result (IsEmptyFragment true count list) }
+{
+    count >= 16384 && size == 0
 }

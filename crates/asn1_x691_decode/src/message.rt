@@ -63,8 +63,9 @@ fn begin(octets: &[u8], node: usize) -> State
 /// # Errors
 ///
 /// Returns the first fault of the message. The kind is [`FaultKind::Unsupported`] if a length,
-/// other than that of an OCTET STRING or of a SEQUENCE OF, has a fragment (X.691 11.9.3.8), or if an
-/// item of a SET OF does not begin at an octet in the ALIGNED variant.
+/// other than that of an OCTET STRING or of a SEQUENCE OF, has a fragment (X.691 11.9.3.8), if the
+/// items of a fragment have no bits, or if an item of a SET OF does not begin at an octet in the
+/// ALIGNED variant.
 ///
 /// # Examples
 ///

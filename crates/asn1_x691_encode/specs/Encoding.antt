@@ -9,7 +9,7 @@ use Rattle.asn1_schema.specs.declared.tables.Node.{Node}
 use Rattle.asn1_schema.specs.declared.tables.Node.TheVariants as type
 use Rattle.asn1_schema.specs.declared.tables.Rows.{Rows}
 use Rattle.asn1_schema.specs.Pieces.{Piece, Parts, Count, UnknownChosen}
-use Rattle.asn1_schema.specs.TypeEncodings.{TypeEncoding, AfterHeader, both, several, header}
+use Rattle.asn1_schema.specs.TypeEncodings.{TypeEncoding, AfterHeader, both, header}
 use Rattle.asn1_x691.specs.Fragments.{most_fragments}
 use Rattle.asn1_x691.specs.Limits.{no_limits, IsOffOctet}
 use Rattle.asn1_x691.specs.Lists.{items_in_fragments, items_below}
@@ -17,7 +17,7 @@ use Rattle.asn1_x691.specs.OpenTypes.{complete, open_type}
 use Rattle.asn1_schema.specs.Fields.{raw_bits}
 use Rattle.asn1_x691.specs.declared.fault.FaultKind.{FaultKind}
 use Rattle.asn1_x691.specs.declared.fault.FaultKind.TheVariants.{Short}
-use Rattle.asn1_x691.specs.Types.{type_at, value_by, items, in_order, sequence_of, added_items, sequence_of_by, alternative_if, choice, choice_by, choice_extension, sequence, sequence_by, root_of, components, known_addition, addition, additions_by_bits, some_additions, extension}
+use Rattle.asn1_x691.specs.Types.{type_at, value_by, items, in_order, sequence_of, fragment_items, added_items, sequence_of_by, alternative_if, choice, choice_by, choice_extension, sequence, sequence_by, root_of, components, known_addition, addition, additions_by_bits, some_additions, extension}
 use Rattle.asn1_x691_fields.specs.Defaults.{default_in}
 use Rattle.asn1_x691_writers.specs.declared.contents.ContentsKind.{ContentsKind}
 use Rattle.asn1_x691_writers.specs.declared.contents.ContentsKind.TheVariants as kind
@@ -65,13 +65,16 @@ abbrev pub added_list_in : Context → ℕ → ℕ → Bool → Length → ℕ �
 added_list_in c depth node is_set size item =
     added_items no_limits c.is_aligned (types c depth) c.tables.members.now c.tables.ranges.now (defaults_in c) node is_set size item
 
--- so many items of a SEQUENCE OF after their number, and the same of fewer than 65,536
+-- so many items of a SEQUENCE OF in a fragment, all items after their number, and fewer than 65,536
+abbrev pub fragment_in : Context → ℕ → ℕ → ℕ → ℕ → ℕ → TypeEncoding FaultKind
+fragment_in c depth node item n =
+    fragment_items no_limits c.is_aligned (types c depth) c.tables.members.now c.tables.ranges.now (defaults_in c) node item n
+
 abbrev pub numbered_in : Context → ℕ → ℕ → ℕ → ℕ → ℕ → TypeEncoding FaultKind
-numbered_in c depth node item count = items_in_fragments (λ n. several (types c depth item) n) c.is_aligned node count
+numbered_in c depth node item count = items_in_fragments (fragment_in c depth node item) c.is_aligned node count
 
 abbrev pub below_in : Context → ℕ → ℕ → ℕ → ℕ → ℕ → TypeEncoding FaultKind
-below_in c depth node item count =
-    items_below (λ n. several (types c depth item) n) c.is_aligned node (nat_lt count 16384) count
+below_in c depth node item count = items_below (fragment_in c depth node item) c.is_aligned node (nat_lt count 16384) count
 
 -- a choice of alternatives that are nested less deep than the depth, one that has an extension marker, and the alternative of an index
 abbrev pub choice_in : Context → ℕ → ℕ → Rows → ℕ → TypeEncoding FaultKind

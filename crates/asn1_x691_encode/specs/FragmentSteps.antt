@@ -12,17 +12,28 @@ use Rattle.asn1_x691_writers.specs.declared.state.Writer.{Writer}
 use Rattle.asn1_x691_writers.specs.GrownSteps.{grown_none}
 use Rattle.asn1_x691_writers.specs.Written.{IsWritten, IsGrown}
 use Rattle.asn1_x691_encode.specs.declared.context.Context.{Context}
-use Rattle.asn1_x691_encode.specs.Encoding.{tape, types, numbered_in, below_in, IsEncoded, IsFirstMisfit, Outcome}
+use Rattle.asn1_x691_encode.specs.Encoding.{tape, types, fragment_in, numbered_in, below_in, IsEncoded, IsFirstMisfit, Outcome}
 use Rattle.asn1_x691_encode.specs.ListSteps.{IsUnderway, underway_first, underway_on, both_step, both_fails}
 
 -- so many fragments of 65,536 items, and fewer items after them
 abbrev pub whole_in : Context → ℕ → ℕ → ℕ → ℕ → ℕ → ℕ → TypeEncoding FaultKind
 whole_in c depth node item whole left =
-    whole_fragments_then (λ n. several (types c depth item) n) c.is_aligned node whole (below_in c depth node item left)
+    whole_fragments_then (fragment_in c depth node item) c.is_aligned node whole (below_in c depth node item left)
 
 module _ (c : Context) (depth node item : ℕ) where
   abbrev A : ℕ → ℕ → TypeEncoding FaultKind
-  A n = several (types c depth item) n
+  A = fragment_in c depth node item
+
+  -- so many items are a fragment: the encoder has no limit
+  fragment_of : (n : ℕ) (was now : List ℕ) (old new : Writer) (r : Bool) → Outcome c (several (types c depth item) n) was old now new r
+      → Outcome c (A n) was old now new r
+  fragment_of n was now old new true a = record {
+    parts = a.parts;
+    written = record { list = a.written.list; encodes = λ at h. (a.written.encodes at h, λ w. w); grown = a.written.grown };
+    taken = a.taken;
+  }
+  fragment_of n was now old new false (inl m) = inl (record { kind = m.kind; reason = m.reason; first = λ at h. inl (m.first at h) })
+  fragment_of n was now old new false (inr u) = inr u
 
   abbrev Number : ℕ → ℕ → TypeEncoding FaultKind
   Number n = number_of_units A c.is_aligned node n
@@ -48,13 +59,13 @@ module _ (c : Context) (depth node item : ℕ) where
     after_number : IsUnderway c (Fragment n R) (both (A n) R) was old now mid
     after_number = both_step c (Number n) (both (A n) R) was now old mid (number_encoded n was now old mid w e)
 
-    pub fragment_step : (end : List ℕ) (new : Writer) → Outcome c (A n) now mid end new true → IsUnderway c (Fragment n R) R was old end new
+    pub fragment_step : (end : List ℕ) (new : Writer) → Outcome c (several (types c depth item) n) now mid end new true → IsUnderway c (Fragment n R) R was old end new
     fragment_step end new a =
-        underway_on c (Fragment n R) (both (A n) R) R was now end old mid new after_number (both_step c (A n) R now end mid new a)
+        underway_on c (Fragment n R) (both (A n) R) R was now end old mid new after_number (both_step c (A n) R now end mid new (fragment_of n now end mid new true a))
 
-    pub fragment_fails : (end : List ℕ) (new : Writer) → Outcome c (A n) now mid end new false
+    pub fragment_fails : (end : List ℕ) (new : Writer) → Outcome c (several (types c depth item) n) now mid end new false
         → Outcome c (Fragment n R) was old end new false
-    fragment_fails end new o = after_number.onward end new false (both_fails c (A n) R now end mid new o)
+    fragment_fails end new o = after_number.onward end new false (both_fails c (A n) R now end mid new (fragment_of n now end mid new false o))
 
   -- nothing follows
   nothing_left : (now : List ℕ) (mid : Writer) → Outcome c nothing now mid now mid true
@@ -67,7 +78,7 @@ module _ (c : Context) (depth node item : ℕ) where
   -- the last items
   pub last_done : (n : ℕ) (was now end : List ℕ) (old mid new : Writer) (r : Bool)
       → IsWritten c.is_aligned (units_next c.is_aligned node) n was old.at now mid.at → mid.next ≡ old.next
-      → Outcome c (A n) now mid end new r → Outcome c (Fragment n nothing) was old end new r
+      → Outcome c (several (types c depth item) n) now mid end new r → Outcome c (Fragment n nothing) was old end new r
   last_done n was now end old mid new true w e a =
       (fragment_step n nothing was now old mid w e end new a).onward end new true (nothing_left end new)
   last_done n was now end old mid new false w e a = fragment_fails n nothing was now old mid w e end new a
@@ -93,7 +104,7 @@ module _ (c : Context) (depth node item : ℕ) where
 
     pub whole_step : (whole : ℕ) (next end : List ℕ) (last new : Writer) → 0 < whole → IsUnderway c W (Whole whole) was old now mid
         → IsWritten c.is_aligned (units_next c.is_aligned node) 65536 now mid.at next last.at → last.next ≡ mid.next
-        → Outcome c (A 65536) next last end new true → IsUnderway c W (Whole (whole - 1)) was old end new
+        → Outcome c (several (types c depth item) 65536) next last end new true → IsUnderway c W (Whole (whole - 1)) was old end new
     whole_step zero next end last new some g w e a = absurd (omega (arith, some))
     whole_step (suc whole) next end last new some g w e a =
         let f : whole ≡ suc whole - 1 = omega arith in
@@ -103,7 +114,7 @@ module _ (c : Context) (depth node item : ℕ) where
 
     pub whole_fails : (whole : ℕ) (next end : List ℕ) (last new : Writer) → 0 < whole → IsUnderway c W (Whole whole) was old now mid
         → IsWritten c.is_aligned (units_next c.is_aligned node) 65536 now mid.at next last.at → last.next ≡ mid.next
-        → Outcome c (A 65536) next last end new false → Outcome c W was old end new false
+        → Outcome c (several (types c depth item) 65536) next last end new false → Outcome c W was old end new false
     whole_fails zero next end last new some g w e o = absurd (omega (arith, some))
     whole_fails (suc whole) next end last new some g w e o =
         g.onward end new false (fragment_fails 65536 (Whole whole) now next mid last w e end new o)

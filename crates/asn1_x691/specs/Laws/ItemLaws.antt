@@ -6,7 +6,7 @@ use Rattle.asn1_schema.specs.declared.tables.Range.{Range}
 use Rattle.asn1_schema.specs.declared.tables.Member.{Member}
 use Rattle.asn1_schema.specs.declared.misfit.MisfitKind.TheVariants as misfit
 use Rattle.asn1_schema.specs.Pieces.{Count}
-use Rattle.asn1_schema.specs.TypeEncodings.{TypeEncoding, except_type}
+use Rattle.asn1_schema.specs.TypeEncodings.{TypeEncoding, several, except_type}
 use Rattle.asn1_schema.specs.Laws.TypeLaws.{IsGoodEverywhere, several_good, several_by_bits_good, except_type_good}
 use Rattle.asn1_schema.specs.Laws.HeaderLaws.{BeginsWith}
 use Rattle.asn1_schema.specs.Laws.PermittedLaws.{permitted_sound, permitted_one, permitted_is}
@@ -14,8 +14,8 @@ use Rattle.asn1_x691.specs.declared.fault.FaultKind.{FaultKind}
 use Rattle.asn1_x691.specs.declared.fault.FaultKind.TheVariants.{BelowLeast, InRoot, NotAscending, Unsupported}
 use Rattle.asn1_x691.specs.Fields.{constrained, length_of}
 use Rattle.asn1_x691.specs.Strings.{IsOfRoot, IsAddedSize}
-use Rattle.asn1_x691.specs.Limits.{Limits, IsOffOctet}
-use Rattle.asn1_x691.specs.Types.{IsMisplaced, count_from, IsAddedCount, length_at_least, added_length, in_order, items, items_at_least, sequence_of, added_items, sequence_of_by}
+use Rattle.asn1_x691.specs.Limits.{Limits, IsOffOctet, IsEmptyFragment}
+use Rattle.asn1_x691.specs.Types.{IsMisplaced, count_from, IsAddedCount, length_at_least, added_length, in_order, items, fragment_items, items_at_least, sequence_of, added_items, sequence_of_by}
 use Rattle.asn1_x691.specs.Laws.FieldLaws.{constrained_sound, length_sound}
 use Rattle.asn1_x691.specs.Laws.OneEncodingLaws.{constrained_one, length_one}
 use Rattle.asn1_x691.specs.Laws.StringLaws.{sizes_apart}
@@ -38,9 +38,14 @@ module _ (limits : Limits) (aligned : Bool) (E : ℕ → ℕ → TypeEncoding Fa
   items_good true item n =
       several_by_bits_good (in_order limits aligned E members ranges defaults node item) (λ before. in_order_good item before) [] n
 
+  fragment_items_good : (item n : ℕ) → IsGoodEverywhere (fragment_items limits aligned E members ranges defaults node item n)
+  fragment_items_good item n at =
+      except_type_good (λ list. IsEmptyFragment limits.fragments_have_bits n list) Unsupported misfit.Unsupported node (several (E item) n at)
+      (several_good (E item) (e item).good n at)
+
   at_least_type : (is_set : Bool) (least item : ℕ) → IsType (items_at_least limits aligned E members ranges defaults node is_set least item)
   at_least_type false least item =
-      list_type (items limits aligned E members ranges defaults node false item) aligned node (λ n. items_good false item n)
+      list_type (fragment_items limits aligned E members ranges defaults node item) aligned node (fragment_items_good item)
       limits.item_fragments (λ n. least ≤ n) (λ n. n < least) BelowLeast (not_below least)
   at_least_type true least item =
       part_type (length_at_least aligned least node) Count (λ n. items limits aligned E members ranges defaults node true item n) node
@@ -58,7 +63,7 @@ module _ (limits : Limits) (aligned : Bool) (E : ℕ → ℕ → TypeEncoding Fa
 
   added_items_type : (is_set : Bool) (size : Length) (item : ℕ) → IsType (added_items limits aligned E members ranges defaults node is_set size item)
   added_items_type false size item =
-      list_type (items limits aligned E members ranges defaults node false item) aligned node (λ n. items_good false item n)
+      list_type (fragment_items limits aligned E members ranges defaults node item) aligned node (fragment_items_good item)
       limits.item_fragments (IsAddedSize size) (IsOfRoot size) InRoot (sizes_apart size)
   added_items_type true size item =
       part_type (added_length aligned size node) Count (λ n. items limits aligned E members ranges defaults node true item n) node
@@ -70,7 +75,7 @@ module _ (limits : Limits) (aligned : Bool) (E : ℕ → ℕ → TypeEncoding Fa
   at_least_begins : (is_set : Bool) (least item at : ℕ)
       → BeginsWith (λ p. ¬ (IsAddedCount (AtLeast least) p)) (items_at_least limits aligned E members ranges defaults node is_set least item at)
   at_least_begins false least item at =
-      list_begins (items limits aligned E members ranges defaults node false item) aligned node limits.item_fragments (λ n. least ≤ n)
+      list_begins (fragment_items limits aligned E members ranges defaults node item) aligned node limits.item_fragments (λ n. least ≤ n)
       (λ n. n < least) BelowLeast at (λ p. ¬ (IsAddedCount (AtLeast least) p)) (λ n p q. not_below least n p q)
   at_least_begins true least item at = record {
     each = λ xs l p. (
@@ -93,7 +98,7 @@ module _ (limits : Limits) (aligned : Bool) (E : ℕ → ℕ → TypeEncoding Fa
   added_begin : (is_set : Bool) (size : Length) (item at : ℕ)
       → BeginsWith (IsAddedCount size) (added_items limits aligned E members ranges defaults node is_set size item at)
   added_begin false size item at =
-      list_begins (items limits aligned E members ranges defaults node false item) aligned node limits.item_fragments (IsAddedSize size)
+      list_begins (fragment_items limits aligned E members ranges defaults node item) aligned node limits.item_fragments (IsAddedSize size)
       (IsOfRoot size) InRoot at (IsAddedCount size) (λ n p. p)
   added_begin true size item at = record {
     each = λ xs l p. (

@@ -16,7 +16,7 @@ use Rattle.asn1_schema.specs.Pieces.{Parts, Sequence, Count, Chosen, Additions}
 use Rattle.asn1_schema.specs.Order.{IsBefore}
 use Rattle.asn1_schema.specs.Encodings.{Encoding}
 use Rattle.asn1_schema.specs.Fields.{raw_bits}
-use Rattle.asn1_schema.specs.TypeEncodings.{TypeEncoding, AfterHeader, part, header, both, put, except_type}
+use Rattle.asn1_schema.specs.TypeEncodings.{TypeEncoding, AfterHeader, part, header, both, several, put, except_type}
 use Rattle.asn1_schema.specs.Narrow.{RejectsMore}
 use Rattle.asn1_schema.specs.Laws.PhaseLaws.{TypesAgree}
 use Rattle.asn1_schema.specs.Laws.NarrowLaws.{AfterIsNarrow, same_narrow, both_narrow, several_narrow, several_by_bits_narrow, part_narrow, put_narrow, header_narrow, except_narrow, end_narrow, mandatory_narrow, optional_narrow, only_where_narrow}
@@ -29,8 +29,8 @@ use Rattle.asn1_x691.specs.Fragments.{most_fragments}
 use Rattle.asn1_x691.specs.Strings.{IsOfRoot, IsAddedSize}
 use Rattle.asn1_x691.specs.Lists.{list_where}
 use Rattle.asn1_x691.specs.Contents.{IsObjectIdentifier, IsRelativeIdentifier, IsUtf8Text}
-use Rattle.asn1_x691.specs.Limits.{Limits, no_limits, AreWithin, IsNoLimit, IsOffOctet}
-use Rattle.asn1_x691.specs.Types.{IsMisplaced, alternative_of_addition, IsAddedAlternative, optional_count, count_from, IsAddedCount, length_at_least, added_length, any_true, value_by, component_by, component, components, root_of, sequence, known_addition, addition, additions_by_bits, some_additions, extension, IsExtended, sequence_by, in_order, items, items_at_least, sequence_of, added_items, sequence_of_by, alternative_if, choice, added, choice_extension, choice_by, type_of, type_at}
+use Rattle.asn1_x691.specs.Limits.{Limits, no_limits, AreWithin, IsNoLimit, IsOffOctet, IsEmptyFragment}
+use Rattle.asn1_x691.specs.Types.{IsMisplaced, alternative_of_addition, IsAddedAlternative, optional_count, count_from, IsAddedCount, length_at_least, added_length, any_true, value_by, component_by, component, components, root_of, sequence, known_addition, addition, additions_by_bits, some_additions, extension, IsExtended, sequence_by, in_order, items, fragment_items, items_at_least, sequence_of, added_items, sequence_of_by, alternative_if, choice, added, choice_extension, choice_by, type_of, type_at}
 use Rattle.asn1_x691.specs.Laws.LimitLaws.{NarrowTypes, by_bit_narrow, bit_string_narrow, octet_string_narrow, text_narrow, list_narrow, contents_narrow, time_narrow, unknown_narrow, open_type_narrow}
 use Rattle.asn1_x691.specs.Laws.TypeLaws.{type_at_type}
 use Rattle.asn1_x691.specs.Laws.TypePhaseLaws.{type_at_follows}
@@ -251,14 +251,21 @@ module _ (limits : Limits) (within : AreWithin limits) (aligned : Bool) (E F : �
       (in_order no_limits aligned F members ranges defaults node item) (in_order_narrow item)
       (λ before p x list w. inr (record { began = p; value = x; ends = refl; encodes = w.0.0 })) n [] at (inl refl)
 
+  fragment_items_narrow : (item n : ℕ) → NarrowTypes (fragment_items limits aligned E members ranges defaults node item n)
+      (fragment_items no_limits aligned F members ranges defaults node item n)
+  fragment_items_narrow item n at =
+      except_narrow IsNoLimit (λ l. IsEmptyFragment limits.fragments_have_bits n l) (λ l. IsEmptyFragment false n l) Unsupported
+      misfit.Unsupported node (several (E item) n at) (several (F item) n at) (several_narrow IsNoLimit (E item) (F item) (e item) n at)
+      (λ x l w c. absurd c) (λ free. absurd (free refl))
+
   lists_narrow : (item : ℕ) (Yes No : ℕ → Type 0) (kind : FaultKind)
       → NarrowTypes
-      (list_where (items limits aligned E members ranges defaults node false item) aligned node limits.item_fragments Yes No kind)
-      (list_where (items no_limits aligned F members ranges defaults node false item) aligned node most_fragments Yes No kind)
+      (list_where (fragment_items limits aligned E members ranges defaults node item) aligned node limits.item_fragments Yes No kind)
+      (list_where (fragment_items no_limits aligned F members ranges defaults node item) aligned node most_fragments Yes No kind)
   lists_narrow item Yes No kind =
       list_narrow limits.item_fragments most_fragments within.item_fragments aligned node
-      (items limits aligned E members ranges defaults node false item) (items no_limits aligned F members ranges defaults node false item)
-      (λ n. items_narrow false item n) Yes No kind
+      (fragment_items limits aligned E members ranges defaults node item) (fragment_items no_limits aligned F members ranges defaults node item)
+      (fragment_items_narrow item) Yes No kind
 
   set_narrow : (L : ℕ → Encoding FaultKind ℕ) (item : ℕ)
       → NarrowTypes (part L Count (λ n. items limits aligned E members ranges defaults node true item n) node)

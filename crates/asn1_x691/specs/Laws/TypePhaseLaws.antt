@@ -15,7 +15,7 @@ use Rattle.asn1_schema.specs.declared.misfit.MisfitKind.TheVariants as misfit
 use Rattle.asn1_schema.specs.Pieces.{Piece, Null, Truth, Integer, Enumerated, Bits, Octets, Text, Sequence, Count, Chosen, Additions, Unknown}
 use Rattle.asn1_schema.specs.Encodings.{Encoding, constant, invalid, cases, anywhere, permitted}
 use Rattle.asn1_schema.specs.Fields.{raw_bits}
-use Rattle.asn1_schema.specs.TypeEncodings.{TypeEncoding, AfterHeader, nothing, leaf, part, header, both, put, except_type, either_by_bit}
+use Rattle.asn1_schema.specs.TypeEncodings.{TypeEncoding, AfterHeader, nothing, leaf, part, header, both, several, put, except_type, either_by_bit}
 use Rattle.asn1_schema.specs.Laws.PhaseLaws.{Shifts, Agree, TypesAgree, AfterAgree, anywhere_agrees, in_turn_agrees, permitted_agrees, nothing_agrees, both_agree, several_agree, part_agrees, leaf_agrees, put_agrees, header_agrees, except_type_agrees, several_by_bits_agree, end_agrees, mandatory_agrees, optional_agrees, only_where_agrees, either_by_bit_agrees, enclosed_agrees}
 use Rattle.asn1_schema.specs.Times.{IsTime}
 use Rattle.asn1_schema.specs.Reals.{IsReal}
@@ -28,9 +28,9 @@ use Rattle.asn1_x691.specs.Characters.{text_of, added_text, IsAddedText}
 use Rattle.asn1_x691.specs.Contents.{IsObjectIdentifier, IsRelativeIdentifier, IsUtf8Text}
 use Rattle.asn1_x691.specs.OpenTypes.{complete, enclosing, open_type}
 use Rattle.asn1_x691.specs.Lists.{list_where}
-use Rattle.asn1_x691.specs.Limits.{Limits, IsOffOctet}
+use Rattle.asn1_x691.specs.Limits.{Limits, IsOffOctet, IsEmptyFragment}
 use Rattle.asn1_x691.specs.Leaves.{by_extension_bit, from_least, IsBetween, IsOutside, IsAddedInteger, value_of_addition, IsAddedValue, AreAddedBits, AreAddedOctets, AreTrimmed, integer_between, integer_at_least, extensible_integer, integer_between_by, integer_at_least_by, enumerated, enumerated_by, string_by, bits_by, bit_string, octet_string, text, contents, visible, time}
-use Rattle.asn1_x691.specs.Types.{no_node, alternative_of_addition, IsAddedAlternative, IsMisplaced, optional_count, count_from, IsAddedCount, length_at_least, added_length, any_true, value_by, component_by, component, components, root_of, sequence, known_addition, addition, additions_by_bits, some_additions, extension, IsExtended, sequence_by, in_order, items, items_at_least, sequence_of, added_items, sequence_of_by, alternative_if, choice, added, choice_extension, choice_by, type_of, type_at}
+use Rattle.asn1_x691.specs.Types.{no_node, alternative_of_addition, IsAddedAlternative, IsMisplaced, optional_count, count_from, IsAddedCount, length_at_least, added_length, any_true, value_by, component_by, component, components, root_of, sequence, known_addition, addition, additions_by_bits, some_additions, extension, IsExtended, sequence_by, in_order, items, fragment_items, items_at_least, sequence_of, added_items, sequence_of_by, alternative_if, choice, added, choice_extension, choice_by, type_of, type_at}
 use Rattle.asn1_x691.specs.Laws.PhaseLaws.{shifts, constrained_follows, length_follows, small_length_follows, semi_constrained_follows, unconstrained_follows, small_number_follows, all_units_follow, octets_follow, string_of_follows, added_string_follows, text_of_follows, added_text_follows}
 
 abbrev pub TypeFollows : Bool → (ℕ → TypeEncoding FaultKind) → Type 0
@@ -255,13 +255,18 @@ module _ (limits : Limits) (aligned : Bool) (E : ℕ → ℕ → TypeEncoding Fa
   items_follow true item n =
       several_by_bits_agree Ph (in_order limits aligned E members ranges defaults node item) (λ before. in_order_follows item before) [] n
 
+  fragment_items_follow : (item n : ℕ) → TypeFollows aligned (fragment_items limits aligned E members ranges defaults node item n)
+  fragment_items_follow item n =
+      except_type_agrees Ph (λ at list. IsEmptyFragment limits.fragments_have_bits n list) Unsupported misfit.Unsupported node
+      (several (E item) n) (λ p q s list w. w) (several_agree Ph (E item) (e item) n)
+
   list_follows : (item : ℕ) (Yes No : ℕ → Type 0) (kind : FaultKind)
-      → TypeFollows aligned (list_where (items limits aligned E members ranges defaults node false item) aligned node limits.item_fragments Yes No kind)
+      → TypeFollows aligned (list_where (fragment_items limits aligned E members ranges defaults node item) aligned node limits.item_fragments Yes No kind)
   list_follows item Yes No kind =
-      let I = λ (n at : ℕ). (items limits aligned E members ranges defaults node false item n at).encoding in
+      let I = λ (n at : ℕ). (fragment_items limits aligned E members ranges defaults node item n at).encoding in
       in_turn_agrees Ph (all_units I (λ xs ys. xs ++ ys) aligned node limits.item_fragments) (λ v ts. ts)
       (λ v. where_size Yes No kind node (v.0, Count v.0 ∷ v.1))
-      (all_units_follow aligned node I (λ xs ys. xs ++ ys) (λ n. items_follow false item n) limits.item_fragments)
+      (all_units_follow aligned node I (λ xs ys. xs ++ ys) (fragment_items_follow item) limits.item_fragments)
       (λ v. anywhere_agrees Ph (cases (Yes v.0) (constant (Count v.0 ∷ v.1)) (No v.0) (invalid kind node)))
 
   items_at_least_follow : (is_set : Bool) (least item : ℕ)

@@ -14,7 +14,7 @@ use Rattle.asn1_schema.specs.declared.misfit.MisfitKind.TheVariants as misfit
 use Rattle.asn1_schema.specs.Pieces.{Piece, Null, Truth, Integer, Bits, Octets, Text, Sequence, Chosen, Count, Parts, Additions, Unknown}
 use Rattle.asn1_schema.specs.Encodings.{Encoding, anywhere, permitted}
 use Rattle.asn1_schema.specs.Fields.{raw_bits}
-use Rattle.asn1_schema.specs.TypeEncodings.{TypeEncoding, AfterHeader, nothing, header, both, put, part, leaf, either_by_bit}
+use Rattle.asn1_schema.specs.TypeEncodings.{TypeEncoding, AfterHeader, nothing, header, both, several, put, part, leaf, either_by_bit}
 use Rattle.asn1_schema.specs.Times.{IsTime}
 use Rattle.asn1_schema.specs.Reals.{IsReal}
 use Rattle.asn1_schema.specs.Values.{held_by, AreValues, none}
@@ -25,14 +25,14 @@ use Rattle.asn1_x691.specs.Fields.{phase, constrained, semi_constrained, unconst
 use Rattle.asn1_x691.specs.Strings.{bit, string_of, added_string, IsOfRoot, IsAddedSize}
 use Rattle.asn1_x691.specs.Characters.{text_of, added_text, IsAddedText}
 use Rattle.asn1_x691.specs.Fragments.{octets}
-use Rattle.asn1_x691.specs.Limits.{Limits, IsOffOctet}
+use Rattle.asn1_x691.specs.Limits.{Limits, IsOffOctet, IsEmptyFragment}
 use Rattle.asn1_x691.specs.Lists.{number_of_units, fragment_then, items_below, whole_fragments_then, items_in_fragments, list_where}
 use Rattle.asn1_x691.specs.Laws.ListLaws.{number_told}
 use Rattle.asn1_x691.specs.Laws.ListTypeLaws.{list_told}
 use Rattle.asn1_x691.specs.OpenTypes.{complete, enclosing, open_type}
 use Rattle.asn1_x691.specs.Contents.{IsObjectIdentifier, IsRelativeIdentifier, IsUtf8Text}
 use Rattle.asn1_x691.specs.Leaves.{by_extension_bit, from_least, IsBetween, IsOutside, IsAddedInteger, added_value, value_of_addition, IsAddedValue, AreAddedBits, AreAddedOctets, integer_between, integer_at_least, integer, extensible_integer, integer_between_by, integer_at_least_by, enumerated, enumerated_by, string_by, bits_by, bit_string, octet_string, text, contents, visible, time}
-use Rattle.asn1_x691.specs.Types.{no_node, added_alternative, alternative_of_addition, IsAddedAlternative, optional_count, IsMisplaced, count_from, IsAddedCount, length_at_least, added_length, any_true, value_by, component_by, no_component, component, components, root_of, sequence, known_addition, addition, additions_by_bits, some_additions, extension, IsExtended, extensible_sequence, sequence_by, in_order, items, items_at_least, sequence_of, added_items, sequence_of_by, alternative, alternative_if, choice, added, choice_extension, choice_by, type_of, type_at}
+use Rattle.asn1_x691.specs.Types.{no_node, added_alternative, alternative_of_addition, IsAddedAlternative, optional_count, IsMisplaced, count_from, IsAddedCount, length_at_least, added_length, any_true, value_by, component_by, no_component, component, components, root_of, sequence, known_addition, addition, additions_by_bits, some_additions, extension, IsExtended, extensible_sequence, sequence_by, in_order, items, fragment_items, items_at_least, sequence_of, added_items, sequence_of_by, alternative, alternative_if, choice, added, choice_extension, choice_by, type_of, type_at}
 
 -- a root or an extension, as a bit tells
 extension_bit_gives : (node n : ℕ) (Added : Piece → Type 0) (A B : ℕ → TypeEncoding FaultKind) → GivesValues n A → GivesValues n B
@@ -217,10 +217,15 @@ module _ (limits : Limits) (aligned : Bool) (E : ℕ → ℕ → TypeEncoding Fa
   items_give true item n =
       several_by_bits_gives (in_order limits aligned E members ranges defaults node item) (in_order_gives item) n []
 
+  fragment_items_give : (item n : ℕ) → GivesValues n (fragment_items limits aligned E members ranges defaults node item n)
+  fragment_items_give item n =
+      except_gives (λ at list. IsEmptyFragment limits.fragments_have_bits n list) Unsupported misfit.Unsupported node n (several (E item) n)
+      (several_gives (E item) (e item) n)
+
   at_least_gives : (is_set : Bool) (least item : ℕ)
       → GivesValues 1 (items_at_least limits aligned E members ranges defaults node is_set least item)
   at_least_gives false least item =
-      list_gives (items limits aligned E members ranges defaults node false item) aligned node (λ n. items_give false item n)
+      list_gives (fragment_items limits aligned E members ranges defaults node item) aligned node (fragment_items_give item)
       limits.item_fragments (λ n. least ≤ n) (λ n. n < least) BelowLeast
   at_least_gives true least item =
       part_gives (length_at_least aligned least node) Count (λ n. items limits aligned E members ranges defaults node true item n) node
@@ -236,7 +241,7 @@ module _ (limits : Limits) (aligned : Bool) (E : ℕ → ℕ → TypeEncoding Fa
   added_items_give : (is_set : Bool) (size : Length) (item : ℕ)
       → GivesValues 1 (added_items limits aligned E members ranges defaults node is_set size item)
   added_items_give false size item =
-      list_gives (items limits aligned E members ranges defaults node false item) aligned node (λ n. items_give false item n)
+      list_gives (fragment_items limits aligned E members ranges defaults node item) aligned node (fragment_items_give item)
       limits.item_fragments (IsAddedSize size) (IsOfRoot size) InRoot
   added_items_give true size item =
       part_gives (added_length aligned size node) Count (λ n. items limits aligned E members ranges defaults node true item n) node

@@ -230,8 +230,8 @@ decoder::decode_node-returns-in-Text-clause-did = nodes.decode_node-returns-in-T
 pub fragments::decode_last_items-returns-then-count-ge16384-clause-did : goal.fragments::decode_last_items-returns-then-count-ge16384-clause-did
 fragments::decode_last_items-returns-then-count-ge16384-clause-did = fragments.decode_last_items-returns-then-count-ge16384-clause-did
 
-pub fragments::decode_last_items-returns-then-not-decode_items-clause-did : goal.fragments::decode_last_items-returns-then-not-decode_items-clause-did
-fragments::decode_last_items-returns-then-not-decode_items-clause-did = fragments.decode_last_items-returns-then-not-decode_items-clause-did
+pub fragments::decode_last_items-returns-then-not-decode_fragment-clause-did : goal.fragments::decode_last_items-returns-then-not-decode_fragment-clause-did
+fragments::decode_last_items-returns-then-not-decode_fragment-clause-did = fragments.decode_last_items-returns-then-not-decode_fragment-clause-did
 
 pub fragments::decode_last_items-returns-clause-did : goal.fragments::decode_last_items-returns-clause-did
 fragments::decode_last_items-returns-clause-did = fragments.decode_last_items-returns-clause-did
@@ -239,8 +239,8 @@ fragments::decode_last_items-returns-clause-did = fragments.decode_last_items-re
 pub fragments::decode_numbered_items-returns-in_default-clause-did : goal.fragments::decode_numbered_items-returns-in_default-clause-did
 fragments::decode_numbered_items-returns-in_default-clause-did = fragments.decode_numbered_items-returns-in_default-clause-did
 
-pub fragments::decode_numbered_items-returns-then-not-decode_items-clause-did : goal.fragments::decode_numbered_items-returns-then-not-decode_items-clause-did
-fragments::decode_numbered_items-returns-then-not-decode_items-clause-did = fragments.decode_numbered_items-returns-then-not-decode_items-clause-did
+pub fragments::decode_numbered_items-returns-then-not-decode_fragment-clause-did : goal.fragments::decode_numbered_items-returns-then-not-decode_fragment-clause-did
+fragments::decode_numbered_items-returns-then-not-decode_fragment-clause-did = fragments.decode_numbered_items-returns-then-not-decode_fragment-clause-did
 
 pub fragments::decode_numbered_items-returns-then-count-lt16384-clause-did : goal.fragments::decode_numbered_items-returns-then-count-lt16384-clause-did
 fragments::decode_numbered_items-returns-then-count-lt16384-clause-did = fragments.decode_numbered_items-returns-then-count-lt16384-clause-did
@@ -283,3 +283,12 @@ list::decode_root_list-returns-in-Some-clause-did = lists.decode_root_list-retur
 
 pub list::decode_set_at_least-returns-clause-did : goal.list::decode_set_at_least-returns-clause-did
 list::decode_set_at_least-returns-clause-did = lists.decode_set_at_least-returns-clause-did
+
+pub fragments::decode_fragment-returns-then-not-decode_items-clause-did : goal.fragments::decode_fragment-returns-then-not-decode_items-clause-did
+fragments::decode_fragment-returns-then-not-decode_items-clause-did = fragments.decode_fragment-returns-then-not-decode_items-clause-did
+
+pub fragments::decode_fragment-returns-then-is_empty_fragment-clause-did : goal.fragments::decode_fragment-returns-then-is_empty_fragment-clause-did
+fragments::decode_fragment-returns-then-is_empty_fragment-clause-did = fragments.decode_fragment-returns-then-is_empty_fragment-clause-did
+
+pub fragments::decode_fragment-returns-clause-did : goal.fragments::decode_fragment-returns-clause-did
+fragments::decode_fragment-returns-clause-did = fragments.decode_fragment-returns-clause-did

@@ -85,13 +85,13 @@ abbrev pub decreases-list::decode_items : goal.decreases-list::decode_items
 decreases-list::decode_items l = 16 * l.depth + 1
 
 abbrev pub decreases-list::decode_root_list : goal.decreases-list::decode_root_list
-decreases-list::decode_root_list l = 16 * l.depth + 6
+decreases-list::decode_root_list l = 16 * l.depth + 7
 
 abbrev pub decreases-list::decode_added_list : goal.decreases-list::decode_added_list
 decreases-list::decode_added_list l = 16 * l.depth + 6
 
 abbrev pub decreases-list::decode_list : goal.decreases-list::decode_list
-decreases-list::decode_list l = 16 * l.depth + 7
+decreases-list::decode_list l = 16 * l.depth + 8
 
 abbrev pub invariant-list::decode_items-loop-left : goal.invariant-list::decode_items-loop-left
 invariant-list::decode_items-loop-left l =
@@ -124,17 +124,20 @@ invariant-set::decode_set_items-loop-left l =
 abbrev pub decreases-set::decode_set_items-loop-left : goal.decreases-set::decode_set_items-loop-left
 decreases-set::decode_set_items-loop-left l = l.left
 
+abbrev pub decreases-fragments::decode_fragment : goal.decreases-fragments::decode_fragment
+decreases-fragments::decode_fragment l = 16 * l.depth + 2
+
 abbrev pub decreases-fragments::decode_last_items : goal.decreases-fragments::decode_last_items
-decreases-fragments::decode_last_items l = 16 * l.depth + 2
+decreases-fragments::decode_last_items l = 16 * l.depth + 3
 
 abbrev pub decreases-fragments::decode_numbered_items : goal.decreases-fragments::decode_numbered_items
-decreases-fragments::decode_numbered_items l = 16 * l.depth + 3
+decreases-fragments::decode_numbered_items l = 16 * l.depth + 4
 
 abbrev pub decreases-fragments::decode_numbered_list : goal.decreases-fragments::decode_numbered_list
-decreases-fragments::decode_numbered_list l = 16 * l.depth + 4
+decreases-fragments::decode_numbered_list l = 16 * l.depth + 5
 
 abbrev pub decreases-list::decode_at_least : goal.decreases-list::decode_at_least
-decreases-list::decode_at_least l = 16 * l.depth + 5
+decreases-list::decode_at_least l = 16 * l.depth + 6
 
 abbrev pub decreases-list::decode_set_at_least : goal.decreases-list::decode_set_at_least
 decreases-list::decode_set_at_least l = 16 * l.depth + 5
