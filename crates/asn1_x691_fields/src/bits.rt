@@ -21,7 +21,7 @@ fn eight(octets: &[u8], first: usize) -> [u8; 8]
 
 /// Returns the word of eight octets from an index on.
 #[inline(always)]
-fn word_at(octets: &[u8], first: usize) -> u64
+pub(crate) fn word_at(octets: &[u8], first: usize) -> u64
     requires { first + 8 ≤ length octets.now }
     ensures { digits result 64 ≡ take 64 (drop (8 * first) (bits octets.now)) }
 {

@@ -51,7 +51,7 @@ pub(crate) fn are_in(
 /// Returns whether so many numbers of `width` bits, one after another in a word, are all in an
 /// interval.
 #[inline(always)]
-fn are_in_word(word: u64, width: usize, interval: Interval, count: usize) -> bool
+pub(crate) fn are_in_word(word: u64, width: usize, interval: Interval, count: usize) -> bool
     requires narrow { width ≤ 7 }
     requires few { count ≤ 8 }
     requires below { word < 2 ^ (width * count) }

@@ -1,12 +1,12 @@
-use Rattle.std.proofs.Common.{◌≡◌, ◌≤◌, ◌<◌, ◌^◌, ◌*◌, ◌+◌, ◌-◌, ℕ, List, Bool, length, take, drop, true, false, sym, ◌∙◌, ap, subst, arith}
+use Rattle.std.proofs.Common.{◌≡◌, ◌≤◌, ◌<◌, ◌^◌, ◌*◌, ◌+◌, ◌-◌, ℕ, List, Bool, length, take, drop, sym, ◌∙◌, ap, subst, arith}
 use Rattle.std.specs.List.{AllByRecursion}
 use Rattle.std.proofs.lemmas.List.{length-drop, length-take-le, drop-drop}
 use Rattle.std.proofs.Math.Nat.{mul-add, mul-le-mul_right}
-use Rattle.asn1_bits.specs.Bits.{bits, digits, number}
+use Rattle.asn1_bits.specs.Bits.{bits}
 use Rattle.asn1_bits.specs.Laws.DigitLaws.{length-bits}
-use Rattle.asn1_bits.specs.Laws.NumberLaws.{digits_of-number, number-below}
+use Rattle.asn1_bits.specs.Laws.NumberLaws.{number-below}
 use Rattle.asn1_schema.specs.CharactersOfParts.{numbers_in}
-use Rattle.asn1_x691_fields.proofs.WordLemmas.{front_numbers, all_numbers, first_numbers}
+use Rattle.asn1_x691_fields.proofs.WordLemmas.{word_is, all_numbers, first_numbers}
 use Rattle.asn1_x691_fields.proofs.code_words.are_in.Goals as goal
 
 -- some of the numbers that are left, and the others
@@ -14,17 +14,6 @@ parts : (width left some : ℕ) → some ≤ left → width * left ≡ width * s
 parts width left some h =
     let e : left ≡ some + (left - some) = omega (arith, h) in
     ap (λ (n : ℕ). width * n) e ∙ mul-add width some (left - some)
-
--- the numbers of a word are those from an index on
-word_is : (width some at word : ℕ) (list : List Bool) → at + width * some ≤ length list
-    → word ≡ number (take (width * some) (drop at list))
-    → numbers_in width some (digits word (width * some)) ≡ numbers_in width some (drop at list)
-word_is width some at word list h e =
-    let size : width * some ≤ length (drop at list) = omega (arith, h, length-drop at list) in
-    ap (λ (n : ℕ). numbers_in width some (digits n (width * some))) e
-    ∙ ap (λ (l : List Bool). numbers_in width some l)
-    (digits_of-number (take (width * some) (drop at list)) (width * some) (length-take-le (width * some) (drop at list) size))
-    ∙ front_numbers width some (drop at list) size
 
 pub number_at-requires-clause-width : goal.number_at-requires-clause-width
 number_at-requires-clause-width c =
