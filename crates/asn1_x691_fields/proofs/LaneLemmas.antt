@@ -1,12 +1,12 @@
 -- Numbers of a few bits, one after another in a word, that are compared at once: a sum has no carry out of a lane where the bit
 -- after the lane is that of both terms.
-use Rattle.std.proofs.Common.{◌≡◌, ℕ, zero, suc, ◌+◌, ◌-◌, ◌*◌, ◌/◌, ◌%◌, ◌^◌, ◌<◌, ◌≤◌, Bool, List, take, drop, inl, inr, sym, ◌∙◌, ap, subst, arith}
+use Rattle.std.proofs.Common.{◌≡◌, ℕ, zero, suc, ◌+◌, ◌-◌, ◌*◌, ◌/◌, ◌%◌, ◌^◌, ◌<◌, ◌≤◌, Bool, List, ◌∷◌, [], take, drop, inl, inr, sym, ◌∙◌, ap, subst, arith}
 use Rattle.std.specs.Prelude.{bit_and}
 use Rattle.std.specs.Int.Bits.{bit_xor}
 use Rattle.std.specs.Int.{bit_at}
 use Rattle.std.specs.List.{AllByRecursion}
 use Rattle.std.proofs.Math.Nat.{mul_comm, mul-le-mul_left, mul-le-mul_right, mul-div-le, mod-eq_of_lt, lt_of_mul-lt-mul_right, add-mul-mod_self_left, add-mul-div_left, mod-lt}
-use Rattle.std.proofs.Math.Pow.{pow_mono, mod-mod-pow}
+use Rattle.std.proofs.Math.Pow.{pow_mono, mod-mod-pow, shr_lt}
 use Rattle.std.proofs.lemmas.Bool.{cases_lt}
 use Rattle.std.proofs.lemmas.List.{length-take}
 use Rattle.std.proofs.lemmas.Nat.{pow_pos, le-div, pow-add, shr-shr, shr_high, shr_split, mod-pow-add}
@@ -205,3 +205,59 @@ all_below w most zero list h = tt
 all_below w most (suc count) list h =
     let low = number-below (take w list) w (omega (arith, length-take w list)) in
     (omega (arith, low, h), all_below w most count (drop w list) h)
+
+-- ---- numbers that are at least another
+
+-- what a number leaves up to all ones, in two parts
+left_parts : (w p n q r : ℕ) → n ≡ q * 2 ^ p + r → q < 2 ^ w → r < 2 ^ p
+    → 2 ^ (w + p) - 1 - n ≡ (2 ^ w - 1 - q) * 2 ^ p + (2 ^ p - 1 - r)
+left_parts w p n q r e high low =
+    let x = 2 ^ w - 1 - q in
+    let whole : 2 ^ w ≡ x + q + 1 = omega (arith, high) in
+    let power : 2 ^ (w + p) ≡ 2 ^ w * 2 ^ p = pow-add 2 w p in
+    let split : 2 ^ w * 2 ^ p ≡ (x + q + 1) * 2 ^ p = ap (λ (m : ℕ). m * 2 ^ p) whole in
+    let apart : (x + q + 1) * 2 ^ p ≡ x * 2 ^ p + q * 2 ^ p + 2 ^ p = omega arith in
+    omega (arith, power, split, apart, e, low)
+
+-- what numbers leave up to all ones is at most what a number leaves, where they are at least that number
+pub all_from : (w least k n : ℕ) → least ≤ 2 ^ w - 1 → n < 2 ^ (w * k)
+    → AllByRecursion (λ m. m ≤ 2 ^ w - 1 - least) (numbers_in w k (digits (2 ^ (w * k) - 1 - n) (w * k)))
+    → AllByRecursion (λ m. least ≤ m) (numbers_in w k (digits n (w * k)))
+all_from w least zero n few below h = tt
+all_from w least (suc k) n few below h =
+    let p = w * k in
+    let e : w * suc k ≡ w + p = omega arith in
+    let some = pow_pos p in
+    let q = n / 2 ^ p in
+    let r = n % 2 ^ p in
+    let low : r < 2 ^ p = mod-lt n some in
+    let high : q < 2 ^ w = shr_lt w p (subst (λ (j : ℕ). n < 2 ^ j) e below) in
+    let is : n ≡ q * 2 ^ p + r = sym (shr_split n p) in
+    let x = 2 ^ (w * suc k) - 1 - n in
+    let parts : x ≡ (2 ^ w - 1 - q) * 2 ^ p + (2 ^ p - 1 - r) =
+    ap (λ (j : ℕ). 2 ^ j - 1 - n) e ∙ left_parts w p n q r is high low in
+    let rest : 2 ^ p - 1 - r < 2 ^ p = omega (arith, some) in
+    let first : x / 2 ^ p ≡ 2 ^ w - 1 - q = ap (λ (m : ℕ). m / 2 ^ p) parts ∙ shr_high (2 ^ w - 1 - q) p (2 ^ p - 1 - r) rest in
+    let others : x - x / 2 ^ p * 2 ^ p ≡ 2 ^ p - 1 - r =
+    ap (λ (m : ℕ). x - m * 2 ^ p) first ∙ omega (arith, parts) in
+    let small : x < 2 ^ (w * suc k) = let up = pow_pos (w * suc k) in omega (arith, up) in
+    let all = subst (λ (ns : List ℕ). AllByRecursion (λ m. m ≤ 2 ^ w - 1 - least) ns) (word_numbers w k x small) h in
+    let head : least ≤ q = let le = all.0 in omega (arith, le, first, few, high) in
+    let tail = subst (λ (m : ℕ). AllByRecursion (λ j. j ≤ 2 ^ w - 1 - least) (numbers_in w k (digits m p))) others all.1 in
+    let back : n - q * 2 ^ p ≡ r = omega (arith, is) in
+    subst (λ (ns : List ℕ). AllByRecursion (λ m. least ≤ m) ns) (sym (word_numbers w k n below)) (
+      head,
+      subst (λ (m : ℕ). AllByRecursion (λ j. least ≤ j) (numbers_in w k (digits m p))) (sym back) (all_from w least k r few low tail),
+    )
+
+-- numbers that are at least a number and at most another
+pub all_between : (least range most : ℕ) (ns : List ℕ) → most ≤ least + range → AllByRecursion (λ n. least ≤ n) ns
+    → AllByRecursion (λ n. n ≤ most) ns → AllByRecursion (λ n. (least ≤ n) × (n ≤ least + range)) ns
+all_between least range most [] e p q = tt
+all_between least range most (n ∷ ns) e p q =
+    let high = q.0 in
+    ((p.0, omega (arith, high, e)), all_between least range most ns e p.1 q.1)
+
+pub all_from_zero : (least : ℕ) (ns : List ℕ) → least ≡ 0 → AllByRecursion (λ n. least ≤ n) ns
+all_from_zero least [] e = tt
+all_from_zero least (n ∷ ns) e = (omega (arith, e), all_from_zero least ns e)

@@ -59,8 +59,8 @@ pub fn alphabet_of_few(ranges: &[Range], is_aligned: bool) -> Alphabet<'_>
     }
 }
 
-/// Returns the alphabet of ranges in the UNALIGNED variant, if they ascend, none of them is empty, and
-/// they have from 2 to 128 characters. There must be fewer than 2^32 of them.
+/// Returns the alphabet of ranges in the UNALIGNED variant, if they ascend, none of them is empty, they
+/// have from 2 to 128 characters, and codes are indices. There must be fewer than 2^32 ranges.
 #[inline(always)]
 pub fn narrow_alphabet(ranges: &[Range]) -> Option<Alphabet<'_>>
     requires { length ranges.now < 2 ^ 32 }
@@ -75,11 +75,14 @@ pub fn narrow_alphabet(ranges: &[Range]) -> Option<Alphabet<'_>>
         return None;
     }
     let width = width_to_many(sums.count - 1);
+    if sums.end <= 1 << width {
+        return None;
+    }
     Some(Alphabet {
         ranges,
         is_aligned: false,
         width,
-        are_numbers: sums.end <= 1 << width,
+        are_numbers: false,
         count: sums.count as u128,
         are_ascending: true,
     })

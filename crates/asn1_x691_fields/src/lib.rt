@@ -56,7 +56,7 @@ pub use heads::{next_bit, next_bits, next_start, next_word};
 pub use integers::{next_integer, next_integer_at_least, next_integer_between};
 pub use lengths::{next_length, next_small_length};
 pub use number_sources::NumbersAt;
-pub use numbers::{above, next_constrained, next_in_bits, next_number, width_to};
+pub use numbers::{above, next_constrained, next_in_bits, next_number, width_to, width_to_few};
 pub use octet_strings::next_octet_string;
 pub use octets::whole_octets;
 pub use quick_texts::have_codes;

@@ -23,7 +23,7 @@ pub fn width_to(range: u128) -> usize
 
 /// Returns the same of a range of up to 32 bits.
 #[inline(always)]
-pub(crate) fn width_to_few(range: u32) -> usize
+pub fn width_to_few(range: u32) -> usize
     ensures value { result ≡ width_to range }
     ensures most { result ≤ 32 }
 {

@@ -13,8 +13,7 @@ ghost use Rattle.asn1_x691_fields.specs.Windows.{IsWindow};
 
 use crate::alphabets::{Alphabet, narrow_alphabet};
 use crate::code_runs::interval_of;
-use crate::code_words::{Interval, are_in_word};
-use crate::lanes::are_up_to;
+use crate::lanes::are_quickly_in;
 use crate::numbers::width_to_few;
 use crate::state::State;
 use crate::windows::{Window, number_in, window_at};
@@ -147,21 +146,4 @@ pub fn have_codes(window: Window, skipped: usize, alphabet: &Alphabet<'_>, count
         None => false,
         Some(interval) => are_quickly_in(word, width, interval, count),
     }
-}
-
-/// Returns whether so many numbers of `width` bits, one after another in a word, are all in an
-/// interval, if that is quick to tell.
-#[inline(always)]
-fn are_quickly_in(word: u64, width: usize, interval: Interval, count: usize) -> bool
-    requires some { 1 ≤ width }
-    requires narrow { width ≤ 7 }
-    requires few { width * count ≤ 63 }
-    requires below { word < 2 ^ (width * count) }
-    ensures { result ≡ true → AllByRecursion (λ n. (interval.least ≤ n) × (n ≤ interval.least + interval.range))
-        (numbers_in width count (digits word (width * count))) }
-{
-    if interval.least > 0 {
-        return count <= 8 && are_in_word(word, width, interval, count);
-    }
-    are_up_to(word, width, interval.range, count)
 }

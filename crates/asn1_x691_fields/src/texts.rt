@@ -46,7 +46,7 @@ pub fn next_extensible_text(
 }
 
 /// Reads characters after the extension bit.
-#[inline(never)]
+#[inline(always)]
 fn next_text_by_bit(
     octets: &[u8],
     is_aligned: bool,

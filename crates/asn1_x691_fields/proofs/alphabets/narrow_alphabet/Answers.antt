@@ -1,5 +1,4 @@
-use Rattle.std.proofs.Common.{◌≡◌, ℕ, ◌-◌, ◌*◌, ◌%◌, ◌^◌, ◌<◌, ◌≤◌, false, sym, ◌∙◌, ap, subst, arith}
-use Rattle.std.proofs.lemmas.Bool.{leb-true, leb-false}
+use Rattle.std.proofs.Common.{◌≡◌, ℕ, ◌-◌, ◌*◌, ◌%◌, ◌^◌, ◌<◌, ◌≤◌, false, sym, ◌∙◌, ap, subst, true, arith}
 use Rattle.std.proofs.lemmas.Nat.{one_shl}
 use Rattle.asn1_characters.specs.Widths.{width_for, ceil_log2}
 use Rattle.asn1_x691.specs.Fields.{width_to}
@@ -12,8 +11,8 @@ from_one : (w n : ℕ) → 2 ≤ n → n ≤ 128 → w ≡ width_to (n - 1) → 
 from_one w n some few e =
     subst (λ (k : ℕ). (1 ≤ k) × (k ≤ 7)) (sym e) (narrow_width (n - 1) (omega (arith, some)) (omega (arith, few)))
 
-pub overflow_shl-result : goal.overflow_shl-result
-overflow_shl-result c =
+pub overflow_shl-width : goal.overflow_shl-width
+overflow_shl-width c =
     let is = from_one c.width_to_many-width.result c.in_ok-sums.sums.count c.if-sums-lt2.false c.if-sums-gt128.false c.width_to_many-width.ensures.value in
     omega (arith, is.1)
 
@@ -43,8 +42,7 @@ returns-clause-is c =
       small = sums.small;
       count = sums.count;
       ascending = λ e. sums.ascending;
-      numbers = within_end ranges w end _ sums.end
-          (λ e. let le = leb-true end (1 * 2 ^ w % 2 ^ 64) e in omega (arith, le, power))
-          (λ e. let lt = leb-false end (1 * 2 ^ w % 2 ^ 64) e in omega (arith, lt, power))
+      numbers = within_end ranges w end false sums.end (λ e. absurd (let bad : true ≡ false = sym e in cc))
+          (λ e. omega (arith, c.if-sums-width.false, power))
           ∙ ap (λ (k : ℕ). are_within ranges (2 ^ k - 1)) width;
     }
