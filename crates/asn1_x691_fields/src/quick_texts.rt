@@ -53,8 +53,33 @@ pub(crate) fn next_quick_text(
     if is_aligned {
         return None;
     }
+    match size {
+        Length::AtLeast { least: _ } => None,
+        Length::Between { least, range } => {
+            next_quick_between(octets, ranges, least, range, state)
+        }
+    }
+}
+
+/// Reads the same of a number that has an upper bound.
+#[inline(always)]
+fn next_quick_between(
+    octets: &[u8],
+    ranges: &[Range],
+    least: u32,
+    range: u32,
+    state: &mut State,
+) -> Option<Found>
+    requires size { 8 * length octets.now < 2 ^ 64 }
+    requires ranges { length ranges.now < 2 ^ 32 }
+    requires within { IsWithin (bits octets.now) state.old }
+    ensures unchanged { IsNone result → state.new ≡ state.old }
+    ensures onward { IsOnward (bits octets.now) state.old state.new }
+    ensures read { (node : ℕ) → IfSome result (λ f. Starts (text_of 0 false ranges.now node (size.Between least range) (position state.old)).encodes
+        (rest (bits octets.now) state.old) (characters_in f ranges.now (bits octets.now)) (rest (bits octets.now) state.new)) }
+{
     let alphabet = narrow_alphabet(ranges)?;
-    let (count, at) = next_few_characters(octets, &alphabet, size, state)?;
+    let (count, at) = next_few_between(octets, &alphabet, least, range, state)?;
     Some(Found {
         at,
         count,
@@ -63,32 +88,8 @@ pub(crate) fn next_quick_text(
     })
 }
 
-/// Reads characters of an alphabet. Returns their number, and the index of the first bit.
-#[inline(always)]
-fn next_few_characters(
-    octets: &[u8],
-    alphabet: &Alphabet<'_>,
-    size: Length,
-    state: &mut State,
-) -> Option<(usize, usize)>
-    requires size { 8 * length octets.now < 2 ^ 64 }
-    requires alphabet { IsAlphabet alphabet.now }
-    requires some { 1 ≤ alphabet.now.width }
-    requires narrow { alphabet.now.width ≤ 7 }
-    requires unaligned { alphabet.now.is_aligned ≡ false }
-    requires within { IsWithin (bits octets.now) state.old }
-    ensures unchanged { IsNone result → state.new ≡ state.old }
-    ensures onward { IsOnward (bits octets.now) state.old state.new }
-    ensures read { (node : ℕ) → IfSome result (λ p. Starts (text_of 0 alphabet.now.is_aligned alphabet.now.ranges.now node size (position state.old)).encodes
-        (rest (bits octets.now) state.old) (characters_at alphabet.now (bits octets.now) p.1 p.0) (rest (bits octets.now) state.new)) }
-{
-    match size {
-        Length::AtLeast { least: _ } => None,
-        Length::Between { least, range } => next_few_between(octets, alphabet, least, range, state),
-    }
-}
-
-/// Reads the number of the characters, where it is not fixed, and the characters.
+/// Reads the number of characters of an alphabet, where it is not fixed, and the characters. Returns
+/// their number, and the index of the first bit.
 #[inline(always)]
 fn next_few_between(
     octets: &[u8],
