@@ -1,5 +1,5 @@
 -- Short strings of characters, each written as one number.
-use Rattle.std.proofs.Common.{◌≡◌, ℕ, ◌+◌, ◌*◌, ◌%◌, ◌^◌, ◌<◌, ◌≤◌, inl, inr, List, [], ◌++◌, Bool, false, refl, sym, ◌∙◌, ap, append-nil, arith}
+use Rattle.std.proofs.Common.{◌≡◌, ℕ, ◌+◌, ◌*◌, ◌%◌, ◌^◌, ◌<◌, ◌≤◌, inl, inr, List, ◌/◌, ◌∷◌, [], ◌++◌, Bool, false, refl, sym, ◌∙◌, ap, append-nil, arith}
 use Rattle.std.proofs.Math.Logic.{⊎_elim}
 use Rattle.std.proofs.Math.Nat.{mul-le-mul_right}
 use Rattle.std.proofs.lemmas.Nat.{pow-add, shl_whole, shr_high}
@@ -55,3 +55,16 @@ sized_encodes ranges node least range more at text codes few all = record {
   is = refl;
   parts = refl;
 }
+
+one_zero : digits 0 1 ≡ false ∷ []
+unfolding digits
+one_zero = refl
+
+-- one bit more of a number is a zero before it
+pub zero_before : (n width : ℕ) → n < 2 ^ width → digits n (width + 1) ≡ false ∷ digits n width
+zero_before n width below =
+    let e : width + 1 ≡ 1 + width = omega arith in
+    let f : n ≡ 0 * 2 ^ width + n = omega arith in
+    let none : n / 2 ^ width ≡ 0 = ap (λ (m : ℕ). m / 2 ^ width) f ∙ shr_high 0 width n below in
+    ap (λ (w : ℕ). digits n w) e ∙ digits-append n 1 width ∙ ap (λ (m : ℕ). digits m 1 ++ digits n width) none
+    ∙ ap (λ (l : List Bool). l ++ digits n width) one_zero

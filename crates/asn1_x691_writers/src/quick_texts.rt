@@ -38,7 +38,7 @@ pub(crate) fn short_text_of(
 ) -> Option<Short>
     requires source { 8 * length source.now < 2 ^ 64 }
     requires root { IsOfRoot size text.count }
-    ensures few { IfSome result (λ s. s.width ≤ 57) }
+    ensures few { IfSome result (λ s. s.width ≤ 56) }
     ensures below { IfSome result (λ s. s.value < 2 ^ s.width) }
     ensures encoded { (node at : ℕ) → IfSome result (λ s. (text_of most_fragments is_aligned (rows_of table.now rows) node size at).encodes
         (characters_of table.now (bits source.now) text) (digits s.value s.width)) }
@@ -67,7 +67,7 @@ fn short_text_between(
 ) -> Option<Short>
     requires source { 8 * length source.now < 2 ^ 64 }
     requires root { IsOfRoot (length_of.Between least range) text.count }
-    ensures few { IfSome result (λ s. s.width ≤ 57) }
+    ensures few { IfSome result (λ s. s.width ≤ 56) }
     ensures below { IfSome result (λ s. s.value < 2 ^ s.width) }
     ensures encoded { (node at : ℕ) → IfSome result (λ s. (text_of most_fragments false (rows_of table.now rows) node (length_of.Between least range) at).encodes
         (characters_of table.now (bits source.now) text) (digits s.value s.width)) }
@@ -75,7 +75,7 @@ fn short_text_between(
     let alphabet = narrow_alphabet(ranges_in(table, rows))?;
     let codes = short_codes_of(&alphabet, rows, source, table, text)?;
     let first = width_to_few(range);
-    if first + codes.width > 57 {
+    if first + codes.width > 56 {
         return None;
     }
     let more = (text.count - least as usize) as u64;

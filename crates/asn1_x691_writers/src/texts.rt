@@ -201,8 +201,8 @@ fn put_text_after_zero(
         (Text (characters_of table.now (bits source.now) text)) octets.old state.old octets.new state.new result }
 {
     if let Some(short) = short_text_of(is_aligned, table, size, rows, source, text) {
-        let after = put_bit(octets, state.at, false);
-        state.at = put_number(octets, after, short.value, short.width);
+        // The bit is a zero before the number.
+        state.at = put_number(octets, state.at, short.value, short.width + 1);
         return true;
     }
     put_long_text_after_zero(

@@ -13,7 +13,7 @@ use Rattle.asn1_x691_writers.proofs.WidthLemmas.{width_enough}
 use Rattle.asn1_x691_writers.proofs.quick_texts.short_text_between.Goals as goal
 
 -- the number of the characters and their codes
-parts : (more range first codes size : ℕ) → more ≤ range → first ≡ width_to range → codes < 2 ^ size → first + size ≤ 57
+parts : (more range first codes size : ℕ) → more ≤ range → first ≡ width_to range → codes < 2 ^ size → first + size ≤ 56
     → AreJoined more first codes size
 parts more range first codes size few is low fits =
     joined more first codes size (subst (λ (w : ℕ). more < 2 ^ w) (sym is) (width_enough more range few)) low (omega (arith, fits))
@@ -21,14 +21,14 @@ parts more range first codes size few is low fits =
 pub overflow_add-result : goal.overflow_add-result
 overflow_add-result c =
     let j = parts (c.args.text.count - c.args.least) c.args.range c.width_to_few-first.result c.in_ok-codes.codes.value c.in_ok-codes.codes.width
-    (omega (arith, c.requires.root)) c.width_to_few-first.ensures.value c.in_ok-codes.ensures.below c.if-first-codes-gt57.false in
-    let up : 2 ^ (c.width_to_few-first.result + c.in_ok-codes.codes.width) ≤ 2 ^ 57 = pow_mono c.if-first-codes-gt57.false in
+    (omega (arith, c.requires.root)) c.width_to_few-first.ensures.value c.in_ok-codes.ensures.below c.if-first-codes-gt56.false in
+    let up : 2 ^ (c.width_to_few-first.result + c.in_ok-codes.codes.width) ≤ 2 ^ 56 = pow_mono c.if-first-codes-gt56.false in
     omega (arith, j.whole, j.below, up)
 
 pub returns-clause-below : goal.returns-clause-below
 returns-clause-below c =
     let j = parts (c.args.text.count - c.args.least) c.args.range c.width_to_few-first.result c.in_ok-codes.codes.value c.in_ok-codes.codes.width
-    (omega (arith, c.requires.root)) c.width_to_few-first.ensures.value c.in_ok-codes.ensures.below c.if-first-codes-gt57.false in
+    (omega (arith, c.requires.root)) c.width_to_few-first.ensures.value c.in_ok-codes.ensures.below c.if-first-codes-gt56.false in
     omega (arith, j.whole, j.below)
 
 pub returns-clause-encoded : goal.returns-clause-encoded
@@ -45,7 +45,7 @@ returns-clause-encoded c node at =
     let codes = c.in_ok-codes.codes.value in
     let size = c.in_ok-codes.codes.width in
     let few : more ≤ range = omega (arith, c.requires.root) in
-    let j = parts more range first codes size few c.width_to_few-first.ensures.value c.in_ok-codes.ensures.below c.if-first-codes-gt57.false in
+    let j = parts more range first codes size few c.width_to_few-first.ensures.value c.in_ok-codes.ensures.below c.if-first-codes-gt56.false in
     let whole : digits (more * 2 ^ size % 2 ^ 64 + codes) (first + size) ≡ digits more (width_to range) ++ digits codes size =
     ap (λ (n : ℕ). digits (n + codes) (first + size)) j.whole ∙ j.parts
     ∙ ap (λ (w : ℕ). digits more w ++ digits codes size) c.width_to_few-first.ensures.value in
