@@ -1,5 +1,5 @@
 -- Numbers of so many bits each, one after another: those of a list of bits, and those of a word.
-use Rattle.std.proofs.Common.{◌≡◌, ℕ, zero, suc, ◌+◌, ◌-◌, ◌*◌, ◌/◌, ◌^◌, ◌<◌, ◌≤◌, List, [], ◌∷◌, ◌++◌, Bool, length, take, drop, refl, sym, ◌∙◌, ap, subst, arith}
+use Rattle.std.proofs.Common.{◌≡◌, ℕ, zero, suc, ◌+◌, ◌-◌, ◌*◌, ◌/◌, ◌^◌, ◌<◌, ◌≤◌, List, ◌∷◌, ◌++◌, Bool, length, take, drop, refl, sym, ◌∙◌, ap, subst, arith}
 use Rattle.std.specs.List.{AllByRecursion}
 use Rattle.std.proofs.lemmas.List.{take-append-le, drop-append-le, drop-drop, take_all, drop-take, length-take-le, length-drop}
 use Rattle.std.proofs.Math.Seq.{take-add}
@@ -8,7 +8,7 @@ use Rattle.std.proofs.Math.Nat.{div-mul-le_self}
 use Rattle.std.proofs.Math.Pow.{shr_lt}
 use Rattle.asn1_bits.specs.Bits.{number, digits}
 use Rattle.asn1_bits.specs.Laws.DigitLaws.{length-digits}
-use Rattle.asn1_bits.specs.Laws.NumberLaws.{digits-append, digits-low, number_of-digits}
+use Rattle.asn1_bits.specs.Laws.NumberLaws.{digits-append, digits-low, digits_of-number, number_of-digits}
 use Rattle.asn1_schema.specs.CharactersOfParts.{numbers_in}
 
 -- the numbers of the bits before it alone
@@ -28,6 +28,17 @@ front_numbers width (suc count) list h =
     ap (λ (n : ℕ). numbers_in width (suc count) (take n list)) e
     ∙ ap (λ (l : List Bool). number l ∷ numbers_in width count (drop width (take (width + width * count) list))) first
     ∙ ap (λ (ns : List ℕ). number (take width list) ∷ ns) others
+
+-- the numbers of a word are those from an index on
+pub word_is : (width some at word : ℕ) (list : List Bool) → at + width * some ≤ length list
+    → word ≡ number (take (width * some) (drop at list))
+    → numbers_in width some (digits word (width * some)) ≡ numbers_in width some (drop at list)
+word_is width some at word list h e =
+    let size : width * some ≤ length (drop at list) = omega (arith, h, length-drop at list) in
+    ap (λ (n : ℕ). numbers_in width some (digits n (width * some))) e
+    ∙ ap (λ (l : List Bool). numbers_in width some l)
+    (digits_of-number (take (width * some) (drop at list)) (width * some) (length-take-le (width * some) (drop at list) size))
+    ∙ front_numbers width some (drop at list) size
 
 module _ (P : ℕ → Type 0) (width : ℕ) where
   -- what holds of the first numbers and of those after them holds of all

@@ -7,6 +7,7 @@ use Rattle.asn1_schema.specs.declared.tables.Rows.{Rows}
 use Rattle.asn1_schema.specs.CharactersOfParts.{character_at, numbers_in}
 use Rattle.asn1_x691.specs.Alphabets.{IsIn, count_of, width_of, are_within, HasCode}
 use Rattle.asn1_x691_fields.specs.declared.alphabets.Alphabet.{Alphabet}
+use Rattle.asn1_x691_fields.specs.declared.quick_texts.Found.{Found}
 
 -- the ranges of rows of a table
 abbrev pub rows_of : List Range → Rows → List Range
@@ -34,6 +35,10 @@ character_by false ranges i = character_at ranges i
 -- so many characters from a bit on
 abbrev pub characters_at : Alphabet → List Bool → ℕ → ℕ → List ℕ
 characters_at a list at count = map (character_by a.are_numbers a.ranges.now) (numbers_in a.width count (drop at list))
+
+-- characters of a message, whose alphabet is these ranges
+abbrev pub characters_in : Found → List Range → List Bool → List ℕ
+characters_in f ranges list = map (character_by f.are_numbers ranges) (numbers_in f.width f.count (drop f.at list))
 
 -- each of these codes is of a character
 abbrev pub AreCodes : Alphabet → List ℕ → Type 0

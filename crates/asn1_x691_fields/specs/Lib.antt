@@ -5,6 +5,8 @@ pub mod Characters
 pub mod NumberSources
 pub mod Octets
 pub mod Defaults
+pub mod Lanes
+pub mod Windows
 -- What follows from steps of a decoder; no contract cites these.
 pub mod ContentSteps
 pub mod FirstBits

@@ -6,8 +6,8 @@ ghost use Rattle.asn1_schema.specs.CharactersOfParts.{characters_below, end_of a
 ghost use Rattle.asn1_x691.specs.Alphabets.{IsIn, HasCode, count_of as count_in, are_within as are_all_within};
 ghost use Rattle.asn1_x691_fields.specs.Characters.{IsAlphabet, AreAscending, rows_of, character_by};
 
-use crate::numbers::width_to;
-use crate::range_sums::{fits, sums_of};
+use crate::numbers::{width_to, width_to_many};
+use crate::range_sums::{ascending_sums, fits, sums_of};
 use asn1_schema::{Range, Rows};
 
 /// An alphabet, and how its characters are encoded.
@@ -48,7 +48,7 @@ pub fn alphabet_of_few(ranges: &[Range], is_aligned: bool) -> Alphabet<'_>
     ensures variant { result.is_aligned ≡ is_aligned }
 {
     let sums = sums_of(ranges);
-    let width = width_of(sums.count as u128, is_aligned);
+    let width = width_of_few(sums.count, is_aligned);
     Alphabet {
         ranges,
         is_aligned,
@@ -57,6 +57,35 @@ pub fn alphabet_of_few(ranges: &[Range], is_aligned: bool) -> Alphabet<'_>
         count: sums.count as u128,
         are_ascending: sums.are_ascending,
     }
+}
+
+/// Returns the alphabet of ranges in the UNALIGNED variant, if they ascend, none of them is empty, they
+/// have from 2 to 128 characters, and codes are indices. There must be fewer than 2^32 ranges.
+#[inline(always)]
+pub fn narrow_alphabet(ranges: &[Range]) -> Option<Alphabet<'_>>
+    requires { length ranges.now < 2 ^ 32 }
+    ensures is { IfSome result (λ a. IsAlphabet a) }
+    ensures ranges { IfSome result (λ a. a.ranges.now ≡ ranges.now) }
+    ensures variant { IfSome result (λ a. a.is_aligned ≡ false) }
+    ensures some { IfSome result (λ a. 1 ≤ a.width) }
+    ensures narrow { IfSome result (λ a. a.width ≤ 7) }
+{
+    let sums = ascending_sums(ranges)?;
+    if sums.count < 2 || sums.count > 128 {
+        return None;
+    }
+    let width = width_to_many(sums.count - 1);
+    if sums.end <= 1 << width {
+        return None;
+    }
+    Some(Alphabet {
+        ranges,
+        is_aligned: false,
+        width,
+        are_numbers: false,
+        count: sums.count as u128,
+        are_ascending: true,
+    })
 }
 
 /// Returns the alphabet of ranges, of any number.
@@ -111,6 +140,23 @@ fn width_of(count: u128, is_aligned: bool) -> usize
         return 0;
     }
     let width = width_to(count - 1);
+    if is_aligned {
+        width.next_power_of_two()
+    } else {
+        width
+    }
+}
+
+/// Returns the same of fewer than 2^64 characters.
+#[inline(always)]
+fn width_of_few(count: u64, is_aligned: bool) -> usize
+    ensures value { result ≡ width_for is_aligned count }
+    ensures most { result ≤ 128 }
+{
+    if count <= 1 {
+        return 0;
+    }
+    let width = width_to_many(count - 1);
     if is_aligned {
         width.next_power_of_two()
     } else {

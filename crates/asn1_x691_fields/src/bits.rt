@@ -21,7 +21,7 @@ fn eight(octets: &[u8], first: usize) -> [u8; 8]
 
 /// Returns the word of eight octets from an index on.
 #[inline(always)]
-fn word_at(octets: &[u8], first: usize) -> u64
+pub(crate) fn word_at(octets: &[u8], first: usize) -> u64
     requires { first + 8 ≤ length octets.now }
     ensures { digits result 64 ≡ take 64 (drop (8 * first) (bits octets.now)) }
 {
@@ -52,4 +52,13 @@ pub(crate) fn last_number(octets: &[u8], at: usize, width: usize) -> u64
 {
     let number = read_wide(octets, at, width);
     (number & 0xFFFF_FFFF_FFFF_FFFF) as u64
+}
+
+/// Returns the bit at an index as a number.
+#[inline(always)]
+pub(crate) fn bit_number(octets: &[u8], at: usize) -> u64
+    requires { at < 8 * length octets.now }
+    ensures { result ≡ number (take 1 (drop at (bits octets.now))) }
+{
+    (u64::from(octets[at / 8]) >> (7 - at % 8)) & 1
 }

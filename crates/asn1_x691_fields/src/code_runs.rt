@@ -48,7 +48,7 @@ pub fn are_quick_codes(octets: &[u8], alphabet: &Alphabet<'_>, at: usize, count:
 
 /// Returns the codes of an alphabet, where they are an interval.
 #[inline(always)]
-fn interval_of(alphabet: &Alphabet<'_>) -> Option<Interval>
+pub(crate) fn interval_of(alphabet: &Alphabet<'_>) -> Option<Interval>
     requires { IsAlphabet alphabet.now }
     ensures codes { IfSome result (λ v. (i : ℕ) → v.least ≤ i → i ≤ v.least + v.range
         → HasCode alphabet.now.is_aligned alphabet.now.ranges.now i (character_by alphabet.now.are_numbers alphabet.now.ranges.now i)) }

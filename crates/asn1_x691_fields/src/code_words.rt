@@ -7,6 +7,7 @@ ghost use Rattle.asn1_bits.specs.Bits.{bits, digits};
 ghost use Rattle.asn1_schema.specs.CharactersOfParts.{numbers_in};
 
 use crate::bits::number_at;
+use crate::lanes::are_quickly_in;
 
 /// The greatest width of numbers of which eight are read at once.
 pub(crate) const NARROW: usize = 7;
@@ -39,7 +40,8 @@ pub(crate) fn are_in(
     let mut left = count;
     while left > 0 {
         let some = left.min(8);
-        if !are_in_word(number_at(octets, next, width * some), width, interval, some) {
+        let word = number_at(octets, next, width * some);
+        if !are_in_lanes(word, width, interval, some) {
             return false;
         }
         next += width * some;
@@ -49,8 +51,23 @@ pub(crate) fn are_in(
 }
 
 /// Returns whether so many numbers of `width` bits, one after another in a word, are all in an
-/// interval.
+/// interval. It compares them at once, and only where that does not tell one after another.
 #[inline(always)]
+fn are_in_lanes(word: u64, width: usize, interval: Interval, count: usize) -> bool
+    requires narrow { width ≤ 7 }
+    requires few { count ≤ 8 }
+    requires below { word < 2 ^ (width * count) }
+    ensures { Decides result (AllByRecursion (λ n. (interval.least ≤ n) × (n ≤ interval.least + interval.range))
+        (numbers_in width count (digits word (width * count)))) }
+{
+    if width > 0 && are_quickly_in(word, width, interval, count) {
+        return true;
+    }
+    are_in_word(word, width, interval, count)
+}
+
+/// Returns the same, of one number after another.
+#[inline(never)]
 fn are_in_word(word: u64, width: usize, interval: Interval, count: usize) -> bool
     requires narrow { width ≤ 7 }
     requires few { count ≤ 8 }

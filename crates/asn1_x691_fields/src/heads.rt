@@ -9,7 +9,7 @@ ghost use Rattle.asn1_x691.specs.Fields.{on_octet};
 ghost use Rattle.asn1_x691.specs.Strings.{bit};
 ghost use Rattle.asn1_x691_fields.specs.Outcomes.{IsWithin, IsOnward, IsRead, IsPlaced};
 
-use crate::bits::number_at;
+use crate::bits::{bit_number, number_at};
 use crate::state::{State, fail};
 use asn1_bits::read_wide;
 use asn1_x691::FaultKind;
@@ -72,6 +72,23 @@ pub fn next_bits(octets: &[u8], count: usize, node: usize, state: &mut State) ->
     Some(at)
 }
 
+/// Reads one bit as a number.
+#[inline(always)]
+fn next_one(octets: &[u8], node: usize, state: &mut State) -> Option<u64>
+    requires size { 8 * length octets.now < 2 ^ 64 }
+    requires within { IsWithin (bits octets.now) state.old }
+    ensures onward { IsOnward (bits octets.now) state.old state.new }
+    ensures read { IsRead (anywhere (number 1 Short node)) (λ n. n) (bits octets.now) state.old state.new result }
+{
+    let at = state.at;
+    if at >= state.end {
+        fail(state, node, FaultKind::Short);
+        return None;
+    }
+    state.at = at + 1;
+    Some(bit_number(octets, at))
+}
+
 /// Reads one bit (X.691 12.2).
 #[inline(always)]
 pub fn next_bit(octets: &[u8], node: usize, state: &mut State) -> Option<bool>
@@ -80,7 +97,7 @@ pub fn next_bit(octets: &[u8], node: usize, state: &mut State) -> Option<bool>
     ensures onward { IsOnward (bits octets.now) state.old state.new }
     ensures read { IsRead (anywhere (bit node)) (λ b. b) (bits octets.now) state.old state.new result }
 {
-    match next_word(octets, 1, node, state) {
+    match next_one(octets, node, state) {
         None => None,
         Some(n) => Some(n == 1),
     }

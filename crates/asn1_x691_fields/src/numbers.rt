@@ -21,6 +21,24 @@ pub fn width_to(range: u128) -> usize
     (128 - range.leading_zeros()) as usize
 }
 
+/// Returns the same of a range of up to 32 bits.
+#[inline(always)]
+pub fn width_to_few(range: u32) -> usize
+    ensures value { result ≡ width_to range }
+    ensures most { result ≤ 32 }
+{
+    (32 - range.leading_zeros()) as usize
+}
+
+/// Returns the same of a range of up to 64 bits.
+#[inline(always)]
+pub(crate) fn width_to_many(range: u64) -> usize
+    ensures value { result ≡ width_to range }
+    ensures most { result ≤ 64 }
+{
+    (64 - range.leading_zeros()) as usize
+}
+
 /// Returns the sum of the least value and `n`. It must be less than 2^127.
 #[inline(always)]
 pub fn above(least: i128, n: u128) -> i128

@@ -1,6 +1,6 @@
 //! What all ranges of an alphabet tell together.
 
-ghost use Rattle.std.specs.Prelude.{◌≡◌, ◌≤◌, ◌<◌, ◌^◌, ℕ, true, false, length};
+ghost use Rattle.std.specs.Prelude.{IfSome, ◌≡◌, ◌≤◌, ◌<◌, ◌^◌, ℕ, true, false, length};
 ghost use Rattle.asn1_schema.specs.CharactersOfParts.{end_of};
 ghost use Rattle.asn1_x691.specs.Alphabets.{IsIn, count_of};
 ghost use Rattle.asn1_x691_fields.specs.Characters.{AreAscending};
@@ -27,21 +27,36 @@ pub(crate) fn sums_of(ranges: &[Range]) -> RangeSums
     ensures small { (c : ℕ) → IsIn ranges.now c → c < 2 ^ 32 }
     ensures ascending { result.are_ascending ≡ true → AreAscending 0 ranges.now }
 {
+    match ascending_sums(ranges) {
+        Some(sums) => sums,
+        None => sums_of_any(ranges),
+    }
+}
+
+/// Returns what ranges tell together, if they ascend and none of them is empty.
+#[inline(always)]
+pub(crate) fn ascending_sums(ranges: &[Range]) -> Option<RangeSums>
+    requires { length ranges.now < 2 ^ 32 }
+    ensures count { IfSome result (λ s. s.count ≡ count_of ranges.now) }
+    ensures end { IfSome result (λ s. s.end ≡ end_of ranges.now) }
+    ensures small { IfSome result (λ s. (c : ℕ) → IsIn ranges.now c → c < 2 ^ 32) }
+    ensures ascending { IfSome result (λ s. AreAscending 0 ranges.now) }
+{
     let mut count: u64 = 0;
     let mut end: u64 = 0;
     for range in ranges {
         let (first, last) = (range.first as u64, range.last as u64);
         if first < end || last < first {
-            return sums_of_any(ranges);
+            return None;
         }
-        count += last - first + 1;
         end = last + 1;
+        count += end - first;
     }
-    RangeSums {
+    Some(RangeSums {
         count,
         end,
         are_ascending: true,
-    }
+    })
 }
 
 /// Returns what ranges tell together, in any order.

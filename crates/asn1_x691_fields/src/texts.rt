@@ -9,10 +9,11 @@ ghost use Rattle.asn1_schema.specs.TypeEncodings.{leaf, by_bit};
 ghost use Rattle.asn1_x691.specs.Characters.{text_of, added_text};
 ghost use Rattle.asn1_x691.specs.Leaves.{text as text_in};
 ghost use Rattle.asn1_x691_fields.specs.Outcomes.{IsWithin, IsOnward, IsRead, IsPlaced};
-ghost use Rattle.asn1_x691_fields.specs.Characters.{rows_of, characters_at, codes_by};
+ghost use Rattle.asn1_x691_fields.specs.Characters.{rows_of, characters_at, codes_by, characters_in};
 
 use crate::alphabets::{Alphabet, alphabet_of_few, ranges_in};
 use crate::heads::next_bit;
+use crate::quick_texts::{Found, next_quick_text};
 use crate::sized_texts::{next_added_text, next_text_of};
 use crate::state::State;
 use asn1_schema::{Characters, Codes, Length, Part, Range, Rows};
@@ -45,7 +46,7 @@ pub fn next_extensible_text(
 }
 
 /// Reads characters after the extension bit.
-#[inline(never)]
+#[inline(always)]
 fn next_text_by_bit(
     octets: &[u8],
     is_aligned: bool,
@@ -90,9 +91,76 @@ pub fn next_text_of_root(
     ensures read { IsRead (λ at. (leaf (text_of 0 is_aligned (rows_of table.now rows) node size) Text node at).encoding)
         (λ p. piece_of table.now (bits octets.now) p ∷ []) (bits octets.now) state.old state.new result }
 {
-    let alphabet = alphabet_of_few(ranges_in(table, rows), is_aligned);
+    let found = next_found_text(
+        octets,
+        is_aligned,
+        ranges_in(table, rows),
+        size,
+        node,
+        state,
+    )?;
+    Some(part_of(found, rows))
+}
+
+/// Reads characters of a size in the root.
+#[inline(always)]
+fn next_found_text(
+    octets: &[u8],
+    is_aligned: bool,
+    ranges: &[Range],
+    size: Length,
+    node: usize,
+    state: &mut State,
+) -> Option<Found>
+    requires size { 8 * length octets.now < 2 ^ 64 }
+    requires ranges { length ranges.now < 2 ^ 32 }
+    requires within { IsWithin (bits octets.now) state.old }
+    requires placed { IsPlaced is_aligned state.old }
+    ensures onward { IsOnward (bits octets.now) state.old state.new }
+    ensures read { IsRead (text_of 0 is_aligned ranges.now node size) (λ f. characters_in f ranges.now (bits octets.now))
+        (bits octets.now) state.old state.new result }
+{
+    let found = match next_quick_text(octets, is_aligned, ranges, size, state) {
+        Some(found) => found,
+        None => next_any_text(octets, is_aligned, ranges, size, node, state)?,
+    };
+    Some(found)
+}
+
+/// Reads characters of a size in the root, of any alphabet.
+#[inline(never)]
+fn next_any_text(
+    octets: &[u8],
+    is_aligned: bool,
+    ranges: &[Range],
+    size: Length,
+    node: usize,
+    state: &mut State,
+) -> Option<Found>
+    requires size { 8 * length octets.now < 2 ^ 64 }
+    requires ranges { length ranges.now < 2 ^ 32 }
+    requires within { IsWithin (bits octets.now) state.old }
+    requires placed { IsPlaced is_aligned state.old }
+    ensures onward { IsOnward (bits octets.now) state.old state.new }
+    ensures read { IsRead (text_of 0 is_aligned ranges.now node size) (λ f. characters_in f ranges.now (bits octets.now))
+        (bits octets.now) state.old state.new result }
+{
+    let alphabet = alphabet_of_few(ranges, is_aligned);
     let (count, at) = next_text_of(octets, &alphabet, size, node, state)?;
-    Some(part_of(&alphabet, rows, count, at))
+    Some(found_of(&alphabet, count, at))
+}
+
+/// Returns so many characters of an alphabet from bit `at` on.
+#[inline(always)]
+fn found_of(alphabet: &Alphabet<'_>, count: usize, at: usize) -> Found
+    ensures { (list : List Bool) → characters_in result alphabet.now.ranges.now list ≡ characters_at alphabet.now list at count }
+{
+    Found {
+        at,
+        count,
+        width: alphabet.width,
+        are_numbers: alphabet.are_numbers,
+    }
 }
 
 /// Reads characters of a number that is none of the root (X.691 30.4).
@@ -115,20 +183,19 @@ fn next_text_of_addition(
 {
     let alphabet = alphabet_of_few(ranges_in(table, rows), is_aligned);
     let (count, at) = next_added_text(octets, &alphabet, size, node, state)?;
-    Some(part_of(&alphabet, rows, count, at))
+    Some(part_of(found_of(&alphabet, count, at), rows))
 }
 
-/// Returns the part of so many characters from bit `at` on, whose alphabet is rows of a table.
+/// Returns the part of characters whose alphabet is rows of a table.
 #[inline(always)]
-fn part_of(alphabet: &Alphabet<'_>, rows: Rows, count: usize, at: usize) -> Part
-    ensures { (table : List the_range.Range) (list : List Bool) → alphabet.now.ranges.now ≡ rows_of table rows
-        → piece_of table list result ≡ Text (characters_at alphabet.now list at count) }
+fn part_of(found: Found, rows: Rows) -> Part
+    ensures { (table : List the_range.Range) (list : List Bool) → piece_of table list result ≡ Text (characters_in found (rows_of table rows) list) }
 {
     Part::Text(Characters {
-        at,
-        count,
-        width: alphabet.width,
-        codes: codes_of(alphabet.are_numbers, rows),
+        at: found.at,
+        count: found.count,
+        width: found.width,
+        codes: codes_of(found.are_numbers, rows),
     })
 }
 

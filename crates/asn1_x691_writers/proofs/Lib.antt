@@ -7,3 +7,4 @@ pub mod ContentsLemmas
 pub mod CharacterLemmas
 pub mod TextLemmas
 pub mod JoinedLemmas
+pub mod QuickLemmas

@@ -70,7 +70,12 @@ pub(crate) fn are_quickly_copied(
 
 /// Returns whether codes tell the characters that those of an alphabet tell, if it is quick to tell.
 #[inline(always)]
-fn have_codes_of(alphabet: &Alphabet<'_>, rows: Rows, table: &[Range], codes: Codes) -> bool
+pub(crate) fn have_codes_of(
+    alphabet: &Alphabet<'_>,
+    rows: Rows,
+    table: &[Range],
+    codes: Codes,
+) -> bool
     requires { alphabet.now.ranges.now ≡ rows_of table.now rows }
     ensures { result ≡ true → HaveCodesOf alphabet.now table.now codes }
 {

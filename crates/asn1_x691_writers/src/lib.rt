@@ -30,6 +30,7 @@ mod lengths;
 mod long_texts;
 mod numbers;
 mod octet_strings;
+mod quick_texts;
 mod reserves;
 mod sized_strings;
 mod sized_texts;

@@ -13,9 +13,11 @@ ghost use Rattle.asn1_x691.specs.Strings.{IsOfRoot, IsAddedSize};
 ghost use Rattle.asn1_x691_fields.specs.Characters.{rows_of};
 ghost use Rattle.asn1_x691_writers.specs.Put.{IsPut, piece_in};
 
+use crate::bits::put_number;
 use crate::booleans::put_bit;
 use crate::characters::are_in;
 use crate::copied::{are_copied, are_quickly_copied};
+use crate::quick_texts::short_text_of;
 use crate::sized_strings::is_of_root;
 use crate::sized_texts::{put_added_text, put_copied_text, put_text_of};
 use crate::state::{Writer, reject};
@@ -81,6 +83,34 @@ fn put_text_of_root(
     if !is_of_root(size, text.count) {
         return reject(state, node, MisfitKind::NoEncoding);
     }
+    if let Some(short) = short_text_of(is_aligned, table, size, rows, source, text) {
+        state.at = put_number(octets, state.at, short.value, short.width);
+        return true;
+    }
+    put_long_text_of_root(
+        octets, is_aligned, table, size, rows, source, text, node, state,
+    )
+}
+
+/// Writes characters of a number of the root, which may be many.
+#[inline(never)]
+fn put_long_text_of_root(
+    octets: &mut [u8],
+    is_aligned: bool,
+    table: &[Range],
+    size: Length,
+    rows: Rows,
+    source: &[u8],
+    text: Characters,
+    node: usize,
+    state: &mut Writer,
+) -> bool
+    requires size { 8 * length octets.old < 2 ^ 64 }
+    requires source { 8 * length source.now < 2 ^ 64 }
+    requires root { IsOfRoot size text.count }
+    ensures { IsPut is_aligned (leaf (text_of most_fragments is_aligned (rows_of table.now rows) node size) Text node)
+        (Text (characters_of table.now (bits source.now) text)) octets.old state.old octets.new state.new result }
+{
     let alphabet = alphabet_of_few(ranges_in(table, rows), is_aligned);
     if text.count < 16384 && are_quickly_copied(&alphabet, rows, source, table, text) {
         state.at = put_copied_text(octets, state.at, &alphabet, size, source, table, text);
@@ -122,7 +152,7 @@ fn put_any_text_of_root(
 }
 
 /// Writes characters of a type with an extension marker.
-#[inline(never)]
+#[inline(always)]
 fn put_text_by_bit(
     octets: &mut [u8],
     is_aligned: bool,
@@ -151,7 +181,38 @@ fn put_text_by_bit(
 }
 
 /// Writes the extension bit 0, and characters of a number of the root.
+#[inline(always)]
 fn put_text_after_zero(
+    octets: &mut [u8],
+    is_aligned: bool,
+    table: &[Range],
+    size: Length,
+    rows: Rows,
+    source: &[u8],
+    text: Characters,
+    node: usize,
+    state: &mut Writer,
+) -> bool
+    requires size { 8 * length octets.old < 2 ^ 64 }
+    requires source { 8 * length source.now < 2 ^ 64 }
+    requires root { IsOfRoot size text.count }
+    ensures { (whole : List the_range.Range) → IsPut is_aligned
+        (text_in most_fragments is_aligned node size true (rows_of table.now rows) whole)
+        (Text (characters_of table.now (bits source.now) text)) octets.old state.old octets.new state.new result }
+{
+    if let Some(short) = short_text_of(is_aligned, table, size, rows, source, text) {
+        // The bit is a zero before the number.
+        state.at = put_number(octets, state.at, short.value, short.width + 1);
+        return true;
+    }
+    put_long_text_after_zero(
+        octets, is_aligned, table, size, rows, source, text, node, state,
+    )
+}
+
+/// Writes the extension bit 0, and characters of a number of the root, which may be many.
+#[inline(never)]
+fn put_long_text_after_zero(
     octets: &mut [u8],
     is_aligned: bool,
     table: &[Range],
@@ -183,6 +244,7 @@ fn put_text_after_zero(
 
 /// Writes the extension bit 1, and characters of another number, by the alphabet of the whole type
 /// (X.691 30.4).
+#[inline(never)]
 fn put_text_after_one(
     octets: &mut [u8],
     is_aligned: bool,

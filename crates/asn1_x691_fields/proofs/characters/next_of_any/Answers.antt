@@ -1,4 +1,4 @@
-use Rattle.std.proofs.Common.{◌≡◌, ℕ, List, Bool, sym, ◌∙◌, ap, subst}
+use Rattle.std.proofs.Common.{ℕ, List, Bool, sym, ◌∙◌, subst}
 use Rattle.asn1_bits.specs.Bits.{bits}
 use Rattle.asn1_schema.specs.declared.tables.Range.{Range}
 use Rattle.asn1_x691.specs.Characters.{characters}

@@ -1,9 +1,6 @@
-use Rattle.std.proofs.Common.{◌≡◌, ◌≤◌, ◌+◌, ◌*◌, ℕ, zero, suc, List, [], ◌∷◌, drop, true, false, arith}
-use Rattle.std.specs.List.{AllByRecursion}
+use Rattle.std.proofs.Common.{◌≤◌, ◌+◌, drop}
 use Rattle.asn1_bits.specs.Bits.{bits}
 use Rattle.asn1_schema.specs.CharactersOfParts.{numbers_in}
-use Rattle.asn1_x691.specs.Alphabets.{HasCode}
-use Rattle.asn1_x691_fields.specs.Characters.{AreCodes, character_by}
 use Rattle.asn1_x691_fields.proofs.CodeLemmas.{all_codes, codes_all}
 use Rattle.asn1_x691_fields.proofs.code_runs.are_codes.Goals as goal
 

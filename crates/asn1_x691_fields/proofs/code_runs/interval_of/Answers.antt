@@ -1,7 +1,7 @@
-use Rattle.std.proofs.Common.{◌≡◌, ◌≤◌, ◌<◌, ◌^◌, ◌-◌, ◌+◌, ℕ, Bool, false, sym, ◌∙◌, subst, arith, inl, inr}
+use Rattle.std.proofs.Common.{◌≡◌, ◌<◌, ◌^◌, ◌-◌, Bool, false, sym, ◌∙◌, subst, arith, inl, inr}
 use Rattle.std.proofs.lemmas.Bool.{cases_lt}
 use Rattle.asn1_schema.specs.CharactersOfParts.{character_at, characters_below}
-use Rattle.asn1_x691.specs.Alphabets.{IsIn, HasCode, width_of, are_within, code_by}
+use Rattle.asn1_x691.specs.Alphabets.{HasCode, width_of, are_within, code_by}
 use Rattle.asn1_x691_fields.specs.Characters.{character_by}
 use Rattle.asn1_x691_fields.proofs.AlphabetLemmas.{index_of_ascending, no_index}
 use Rattle.asn1_x691_fields.proofs.code_runs.interval_of.Goals as goal

@@ -1,4 +1,4 @@
-use Rattle.std.proofs.Common.{◌<◌, ◌≤◌, ◌+◌, ◌*◌, ◌^◌, ℕ}
+use Rattle.std.proofs.Common.{◌<◌, ◌≤◌, ◌+◌, ◌*◌, ◌^◌}
 use Rattle.std.specs.List.{AllByRecursion}
 use Rattle.asn1_bits.specs.Bits.{digits}
 use Rattle.asn1_schema.specs.CharactersOfParts.{numbers_in}

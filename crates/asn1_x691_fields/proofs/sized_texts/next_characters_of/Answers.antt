@@ -1,6 +1,5 @@
-use Rattle.std.proofs.Common.{ℕ, zero, suc, ◌+◌, ◌*◌, ◌<◌, ◌≤◌, ◌⊎◌, inl, inr, refl, sym, subst, arith, Bool}
+use Rattle.std.proofs.Common.{ℕ, sym, subst, Bool}
 use Rattle.std.proofs.Math.Logic.{⊎_elim}
-use Rattle.std.proofs.lemmas.Bool.{cases_lt}
 use Rattle.asn1_bits.specs.Bits.{bits}
 use Rattle.asn1_schema.specs.Encodings.{anywhere, each}
 use Rattle.asn1_x691.specs.Fields.{on_octet}
@@ -9,20 +8,8 @@ use Rattle.asn1_x691.specs.Alphabets.{width_of}
 use Rattle.asn1_x691_fields.specs.Characters.{characters_at}
 use Rattle.asn1_x691_fields.specs.Outcomes.{IsRead}
 use Rattle.asn1_x691_fields.specs.NumberSteps.{first_read, octet_read, second_read}
+use Rattle.asn1_x691_fields.proofs.QuickLemmas.{inline_or_not}
 use Rattle.asn1_x691_fields.proofs.sized_texts.next_characters_of.Goals as goal
-
--- each number of characters begins where it is, or at an octet
-inline_or_not : (w least range n : ℕ) → IsInlineText w least range n ⊎ IsOnOctetText w least range n
-inline_or_not w least range zero = inl (inl refl)
-inline_or_not w least zero (suc n) = fixed (cases_lt 16 (w * least)) where
-  fixed : (16 < w * least) ⊎ (w * least ≤ 16) → IsInlineText w least 0 (suc n) ⊎ IsOnOctetText w least 0 (suc n)
-  fixed (inl many) = inr (omega arith, inl (refl, many))
-  fixed (inr few) = inl (inr (inl (refl, few)))
-inline_or_not w least (suc range) (suc n) = free (cases_lt (w * (least + suc range)) 16) where
-  free : (w * (least + suc range) < 16) ⊎ (16 ≤ w * (least + suc range))
-      → IsInlineText w least (suc range) (suc n) ⊎ IsOnOctetText w least (suc range) (suc n)
-  free (inl few) = inl (inr (inr (omega arith, few)))
-  free (inr many) = inr (omega arith, inr (omega arith, many))
 
 -- in the UNALIGNED variant both begin where they are
 pub returns-then-not-alphabet-clause-read : goal.returns-then-not-alphabet-clause-read

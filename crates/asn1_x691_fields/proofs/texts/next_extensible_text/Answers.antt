@@ -1,12 +1,8 @@
-use Rattle.std.proofs.Common.{[], ◌∷◌, Bool, sym, subst}
 use Rattle.asn1_bits.specs.Bits.{bits}
 use Rattle.asn1_schema.specs.Pieces.{Text}
-use Rattle.asn1_schema.specs.PiecesOfParts.{piece_of}
 use Rattle.asn1_schema.specs.TypeEncodings.{leaf}
 use Rattle.asn1_x691.specs.Characters.{text_of, added_text, IsAddedText}
-use Rattle.asn1_x691.specs.Leaves.{text}
 use Rattle.asn1_x691_fields.specs.Characters.{rows_of}
-use Rattle.asn1_x691_fields.specs.Outcomes.{IsRead}
 use Rattle.asn1_x691_fields.specs.LeafSteps.{bit_taken}
 use Rattle.asn1_x691_fields.proofs.texts.next_extensible_text.Goals as goal
 

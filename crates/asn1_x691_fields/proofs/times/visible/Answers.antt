@@ -1,4 +1,4 @@
-use Rattle.std.proofs.Common.{◌≡◌, ℕ, ◌-◌, ◌^◌, ◌≤◌, Bool, true, false, List, refl, ◌∙◌, ap, arith}
+use Rattle.std.proofs.Common.{◌≡◌, ◌-◌, ◌^◌, ◌≤◌, Bool, true, false, List, refl, ◌∙◌, ap, arith}
 use Rattle.asn1_characters.specs.Widths.{ceil_log2, least_from}
 use Rattle.asn1_schema.specs.declared.tables.Range.{Range}
 use Rattle.asn1_x691.specs.Alphabets.{width_of, are_within}

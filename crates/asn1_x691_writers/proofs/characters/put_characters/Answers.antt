@@ -1,5 +1,3 @@
-use Rattle.std.proofs.Common.{◌≡◌, ℕ, ◌*◌, arith}
-use Rattle.asn1_bits.specs.Bits.{bits}
 use Rattle.asn1_x691_writers.specs.CopiedSteps.{copied_encode}
 use Rattle.asn1_x691_writers.proofs.characters.put_characters.Goals as goal
 

@@ -12,8 +12,7 @@ use Rattle.asn1_x691_writers.specs.Written.{IsWritten}
 use Rattle.asn1_x691_writers.specs.LeafSteps.{leaf_written, leaf_none}
 use Rattle.asn1_x691_writers.specs.PutSteps.{rejected}
 use Rattle.asn1_x691_writers.specs.Texts.{AreIn}
-use Rattle.asn1_x691_writers.specs.TextSteps.{length_text}
-use Rattle.asn1_x691_writers.specs.TextSizeSteps.{none_outside, none_added}
+use Rattle.asn1_x691_writers.specs.TextSizeSteps.{none_outside}
 use Rattle.asn1_x691_writers.proofs.texts.put_any_text_of_root.Goals as goal
 
 pub returns-then-not-are_in : goal.returns-then-not-are_in

@@ -1,8 +1,7 @@
-use Rattle.std.proofs.Common.{◌≡◌, Bool, List, refl, ◌∙◌, sym, subst}
-use Rattle.asn1_bits.specs.Bits.{bits}
+use Rattle.std.proofs.Common.{refl}
+use Rattle.asn1_bits.specs.Bits.{bits, digits}
 use Rattle.asn1_schema.specs.CharactersOfParts.{characters_of}
 use Rattle.asn1_schema.specs.declared.misfit.MisfitKind.TheVariants.{NoEncoding}
-use Rattle.asn1_schema.specs.declared.tables.Range.{Range}
 use Rattle.asn1_schema.specs.Pieces.{Text}
 use Rattle.asn1_schema.specs.TypeEncodings.{leaf}
 use Rattle.asn1_x691.specs.Characters.{text_of}
@@ -11,9 +10,8 @@ use Rattle.asn1_x691_fields.specs.Characters.{rows_of}
 use Rattle.asn1_x691_writers.specs.Written.{IsWritten}
 use Rattle.asn1_x691_writers.specs.LeafSteps.{leaf_written, leaf_none}
 use Rattle.asn1_x691_writers.specs.PutSteps.{rejected}
-use Rattle.asn1_x691_writers.specs.Texts.{AreIn}
 use Rattle.asn1_x691_writers.specs.TextSteps.{length_text}
-use Rattle.asn1_x691_writers.specs.TextSizeSteps.{none_outside, none_added}
+use Rattle.asn1_x691_writers.specs.TextSizeSteps.{none_added}
 use Rattle.asn1_x691_writers.proofs.texts.put_text_of_root.Goals as goal
 
 pub returns-then-not-is_of_root : goal.returns-then-not-is_of_root
@@ -33,26 +31,20 @@ returns-then-not-is_of_root c =
     none_added aligned ranges node most_fragments size c.args.text.count at text (length_text table list c.args.text)
     (c.is_of_root.ensures.added c.if-not-is_of_root.true) p))
 
-pub returns-then-are_quickly_copied : goal.returns-then-are_quickly_copied
-returns-then-are_quickly_copied c =
+pub returns-in-Some : goal.returns-in-Some
+returns-in-Some c =
     let aligned = c.args.is_aligned in
     let node = c.args.node in
-    let size = c.args.size in
     let table = c.args.table.now in
     let text = characters_of table (bits c.args.source.now) c.args.text in
-    let ranges = rows_of table c.args.rows in
+    let A = text_of most_fragments aligned (rows_of table c.args.rows) node c.args.size in
     let was = c.args.octets.now in
-    let now = c.put_copied_text-state.new.octets in
+    let now = c.put_number-state.new.octets in
     let old = c.args.state.now.at in
-    let new = c.put_copied_text-state.result in
-    let a = c.alphabet_of_few-alphabet.result in
-    let same : a.ranges.now ≡ ranges = c.alphabet_of_few-alphabet.ensures.ranges ∙ c.ranges_in.ensures in
-    let variant : a.is_aligned ≡ aligned = c.alphabet_of_few-alphabet.ensures.variant in
-    let w : IsWritten aligned (text_of most_fragments aligned ranges node size) text was old now new =
-    subst (λ (r : List Range). IsWritten aligned (text_of most_fragments aligned r node size) text was old now new) same
-    (subst (λ (b : Bool). IsWritten b (text_of most_fragments b a.ranges.now node size) text was old now new) variant
-    (c.put_copied_text-state.ensures node)) in
-    record {
-      written = leaf_written (text_of most_fragments aligned ranges node size) Text node aligned text (Text text) was now old new refl w;
-      next = refl;
-    }
+    let new = c.put_number-state.result in
+    let w : IsWritten aligned A text was old now new = record {
+      list = digits c.in-Some.short.value c.in-Some.short.width;
+      encodes = λ at h. c.in-Some.ensures.encoded node at;
+      grown = c.put_number-state.ensures;
+    } in
+    record { written = leaf_written A Text node aligned text (Text text) was now old new refl w; next = refl }

@@ -2,7 +2,7 @@ use Rattle.std.proofs.Common.{◌≡◌, ℕ, ◌+◌, ◌*◌, ◌^◌, ◌<◌
 use Rattle.asn1_schema.specs.CharactersOfParts.{end_of}
 use Rattle.asn1_x691.specs.Alphabets.{IsIn, count_of}
 use Rattle.asn1_x691_fields.specs.Characters.{AreAscending}
-use Rattle.asn1_x691_fields.proofs.range_sums.sums_of.Given as goal
+use Rattle.asn1_x691_fields.proofs.range_sums.ascending_sums.Given as goal
 
 abbrev pub invariant-loop-range : goal.invariant-loop-range
 invariant-loop-range l = record {
