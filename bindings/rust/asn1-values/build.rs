@@ -15,7 +15,7 @@ fn build(source: &Path) -> Result<(), String> {
         Ok(true) => Ok(()),
         Ok(false) => Err("`rt lib` failed".into()),
         Err(error) => Err(format!(
-            "the command `rt` of the kit rattle-kit-13f does not run ({error})"
+            "the command `rt` of the Rattle kit does not run ({error})"
         )),
     }
 }
