@@ -23,10 +23,14 @@ fn are_series(octets: &[u8]) -> bool
     let mut index = 0;
     while index < octets.len() {
         let octet = octets[index];
-        if !begun && octet == 128 {
-            return false;
+        if octet < 128 {
+            begun = false;
+        } else {
+            if octet == 128 && !begun {
+                return false;
+            }
+            begun = true;
         }
-        begun = octet >= 128;
         index += 1;
     }
     !begun
@@ -35,6 +39,17 @@ fn are_series(octets: &[u8]) -> bool
 /// Returns whether octets are one or more subidentifiers (X.690 8.19.2, 8.20.2).
 #[inline(never)]
 pub fn are_subidentifiers(octets: &[u8], span: Span) -> bool
+    requires size { 8 * length octets.now < 2 ^ 64 }
+    requires contents { AreOctetsOf (bits octets.now) span }
+    ensures yes { result ≡ true → IsRelativeIdentifier (bits_of (bits octets.now) span) }
+    ensures no { result ≡ false → IsRelativeIdentifier (bits_of (bits octets.now) span) → ⊥ }
+{
+    are_subidentifiers_here(octets, span)
+}
+
+/// Returns what [`are_subidentifiers`] does, inlined.
+#[inline(always)]
+pub fn are_subidentifiers_here(octets: &[u8], span: Span) -> bool
     requires size { 8 * length octets.now < 2 ^ 64 }
     requires contents { AreOctetsOf (bits octets.now) span }
     ensures yes { result ≡ true → IsRelativeIdentifier (bits_of (bits octets.now) span) }

@@ -19,7 +19,9 @@ mod times;
 pub use bit_strings::{are_bits_permitted, bit_string};
 pub use booleans::{boolean, null};
 pub use enumerations::enumerated;
-pub use identifiers::{are_subidentifiers, object_identifier, relative_identifier};
+pub use identifiers::{
+    are_subidentifiers, are_subidentifiers_here, object_identifier, relative_identifier,
+};
 pub use integers::{integer, integer_at_least, integer_between, is_minimal};
 pub use reals::real;
 pub use sizes::has_size;

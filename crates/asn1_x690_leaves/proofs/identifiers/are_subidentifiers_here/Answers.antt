@@ -3,7 +3,7 @@ use Rattle.asn1_bits.specs.Bits.{bits}
 use Rattle.asn1_x691_fields.specs.Octets.{are_series}
 use Rattle.asn1_x691_fields.specs.ContentSteps.{are_identifier, are_no_identifier, empty_is_none}
 use Rattle.asn1_x690_leaves.proofs.SpanSteps.{own_octets}
-use Rattle.asn1_x690_leaves.proofs.identifiers.are_subidentifiers.Goals as goal
+use Rattle.asn1_x690_leaves.proofs.identifiers.are_subidentifiers_here.Goals as goal
 
 pub returns-then-span-gt0-clause-yes : goal.returns-then-span-gt0-clause-yes
 returns-then-span-gt0-clause-yes c e =
