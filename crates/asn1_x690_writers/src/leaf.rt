@@ -18,6 +18,7 @@ use asn1_x691_writers::{ContentsKind, Writer, reject};
 
 /// Writes the contents octets of a part, as a value of a type of one part. Returns whether it did.
 /// If it returns `false`, the state has the reason.
+#[inline(always)]
 pub fn put_leaf(
     octets: &mut [u8],
     ranges: &[Range],

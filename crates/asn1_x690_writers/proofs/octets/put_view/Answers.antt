@@ -1,7 +1,7 @@
 use Rattle.std.proofs.Common.{List, Bool, ◌∙◌, ap, subst}
 use Rattle.asn1_bits.specs.View.{list_of}
 use Rattle.asn1_x691_writers.specs.Written.{IsGrown}
-use Rattle.asn1_x690_writers.proofs.octets.put_span.Goals as goal
+use Rattle.asn1_x690_writers.proofs.octets.put_view.Goals as goal
 
 pub returns-in-Some-aligned_octets : goal.returns-in-Some-aligned_octets
 unfolding list_of
