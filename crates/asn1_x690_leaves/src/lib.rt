@@ -10,6 +10,7 @@ mod booleans;
 mod enumerations;
 mod identifiers;
 mod integers;
+mod octets;
 mod reals;
 mod sizes;
 mod strings;
@@ -23,6 +24,7 @@ pub use identifiers::{
     are_subidentifiers, are_subidentifiers_here, object_identifier, relative_identifier,
 };
 pub use integers::{integer, integer_at_least, integer_between, is_minimal};
+pub use octets::octets_at;
 pub use reals::real;
 pub use sizes::has_size;
 pub use strings::{octet_string, utf8_string};
