@@ -4,7 +4,8 @@ ghost use Rattle.std.specs.Prelude.{◌≡◌, ◌+◌, ◌*◌, ◌%◌, ◌^�
 ghost use Rattle.asn1_bits.specs.Bits.{bits, digits};
 ghost use Rattle.asn1_x691_writers.specs.Written.{IsGrown};
 
-use asn1_bits::{BitStr, aligned_octets};
+use asn1_schema::Span;
+use asn1_x690_leaves::octets_at;
 use asn1_x691_writers::{after, put_bits, put_number};
 
 /// Writes an octet from bit `at` on. Returns the index after it.
@@ -59,12 +60,9 @@ fn put_view(octets: &mut [u8], at: usize, source: &[u8], from: usize, count: usi
     requires within { from + count ≤ 8 * length source.now }
     ensures { IsGrown octets.old at octets.new result (take count (drop from (bits source.now))) }
 {
-    if at % 8 == 0 {
-        if let Some(view) = BitStr::new(source, from, count) {
-            if let Some(own) = aligned_octets(view) {
-                return put_octets(octets, at, own);
-            }
-        }
+    if at % 8 == 0 && from % 8 == 0 && count % 8 == 0 {
+        let own = octets_at(source, Span { at: from, count });
+        return put_octets(octets, at, own);
     }
     put_bits(octets, at, source, from, count)
 }

@@ -1,11 +1,19 @@
-use Rattle.std.proofs.Common.{List, Bool, ◌∙◌, ap, subst}
-use Rattle.asn1_bits.specs.View.{list_of}
-use Rattle.asn1_x691_writers.specs.Written.{IsGrown}
+use Rattle.std.proofs.Common.{◌∙◌, sym, ap, length, drop, arith, List, Bool}
+use Rattle.std.proofs.lemmas.List.{length-take}
+use Rattle.asn1_bits.specs.Bits.{bits}
+use Rattle.asn1_bits.specs.Laws.DigitLaws.{length-bits}
 use Rattle.asn1_x690_writers.proofs.octets.put_view.Goals as goal
 
-pub returns-in-Some-aligned_octets : goal.returns-in-Some-aligned_octets
-unfolding list_of
-returns-in-Some-aligned_octets c =
-    let a = c.args in
-    subst (λ (l : List Bool). IsGrown a.octets.now a.at c.put_octets.new.octets c.put_octets.result l)
-    (c.in-Some-aligned_octets.ensures.bits ∙ ap list_of c.in-Some.ensures.some) c.put_octets.ensures
+pub octets_at-own-requires-clause-contents : goal.octets_at-own-requires-clause-contents
+octets_at-own-requires-clause-contents c = record {
+  inside = omega (arith, c.requires.within, length-bits c.args.source.now);
+  whole = omega (arith, c.if-count-eq0.true);
+}
+
+pub put_octets-requires-clause-own : goal.put_octets-requires-clause-own
+put_octets-requires-clause-own c =
+    let own = c.octets_at-own.result.now in
+    let e = sym (length-bits own)
+    ∙ ap (λ (l : List Bool). length l) c.octets_at-own.ensures.bits
+    ∙ length-take c.args.count (drop c.args.from (bits c.args.source.now)) in
+    omega (arith, e, c.ranges.count.fits)
