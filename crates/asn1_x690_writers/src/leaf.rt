@@ -18,7 +18,9 @@ use asn1_x691_writers::{ContentsKind, Writer, reject};
 
 /// Writes the contents octets of a part, as a value of a type of one part. Returns whether it did.
 /// If it returns `false`, the state has the reason.
-#[inline(always)]
+// A hint to inline a function that would grow very large is dropped. Its callers have that hint, and keep it
+// where this is a call.
+#[inline(never)]
 pub fn put_leaf(
     octets: &mut [u8],
     ranges: &[Range],
@@ -57,7 +59,6 @@ pub fn put_leaf(
 }
 
 /// Writes the contents octets of a part, as a value of one of the rarer types of one part.
-#[inline(never)]
 fn put_rare_leaf(
     octets: &mut [u8],
     ranges: &[Range],
