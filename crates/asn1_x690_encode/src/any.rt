@@ -76,6 +76,7 @@ fn element_in(source: &[u8], span: Span) -> Option<FoundIdentifier>
 }
 
 /// Writes the element that a part holds. Returns its identifier.
+#[inline(always)]
 pub(crate) fn encode_any(
     context: &Context<'_>,
     node: usize,

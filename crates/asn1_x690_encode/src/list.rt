@@ -26,6 +26,7 @@ fn count_of(part: Part) -> Option<usize>
 }
 
 /// Encodes the contents of a SEQUENCE OF or a SET OF.
+#[inline(always)]
 #[cycle(encoding)]
 pub(crate) fn encode_list(
     context: &Context<'_>,

@@ -81,6 +81,7 @@ fn is_absent_part(part: Part) -> bool
 }
 
 /// Encodes the contents of a SEQUENCE without an extension marker.
+#[inline(always)]
 #[cycle(encoding)]
 pub(crate) fn encode_sequence(
     context: &Context<'_>,
@@ -333,6 +334,7 @@ fn encode_required(
 
 /// Encodes a component that may be absent, and those after it. It is present exactly where the next
 /// element has one of its first tags.
+#[inline(always)]
 #[cycle(encoding)]
 pub(crate) fn encode_optional(
     context: &Context<'_>,

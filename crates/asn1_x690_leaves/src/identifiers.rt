@@ -10,9 +10,10 @@ ghost use Rattle.asn1_x690.specs.Der.{always};
 ghost use Rattle.asn1_x691_fields.specs.Octets.{are_series as are_in_series};
 ghost use Rattle.asn1_x690_leaves.specs.Told.{AreOctetsOf, IsTold};
 
+use crate::octets::octets_at;
 use asn1_schema::{Part, Span};
 use asn1_x690::FaultKind;
-use asn1_x691_fields::{are_subidentifiers as are_at_any_bit, whole_octets};
+use asn1_x691_fields::are_subidentifiers as are_at_any_bit;
 
 /// Returns whether octets are subidentifiers one after another (8.19.2).
 #[inline(always)]
@@ -23,10 +24,14 @@ fn are_series(octets: &[u8]) -> bool
     let mut index = 0;
     while index < octets.len() {
         let octet = octets[index];
-        if !begun && octet == 128 {
-            return false;
+        if octet < 128 {
+            begun = false;
+        } else {
+            if octet == 128 && !begun {
+                return false;
+            }
+            begun = true;
         }
-        begun = octet >= 128;
         index += 1;
     }
     !begun
@@ -40,10 +45,21 @@ pub fn are_subidentifiers(octets: &[u8], span: Span) -> bool
     ensures yes { result ≡ true → IsRelativeIdentifier (bits_of (bits octets.now) span) }
     ensures no { result ≡ false → IsRelativeIdentifier (bits_of (bits octets.now) span) → ⊥ }
 {
-    match whole_octets(octets, span) {
-        Some(own) => span.count > 0 && are_series(own),
-        None => are_between_octets(octets, span),
+    are_subidentifiers_here(octets, span)
+}
+
+/// Returns what [`are_subidentifiers`] does, inlined.
+#[inline(always)]
+pub fn are_subidentifiers_here(octets: &[u8], span: Span) -> bool
+    requires size { 8 * length octets.now < 2 ^ 64 }
+    requires contents { AreOctetsOf (bits octets.now) span }
+    ensures yes { result ≡ true → IsRelativeIdentifier (bits_of (bits octets.now) span) }
+    ensures no { result ≡ false → IsRelativeIdentifier (bits_of (bits octets.now) span) → ⊥ }
+{
+    if span.at % 8 > 0 {
+        return are_between_octets(octets, span);
     }
+    span.count > 0 && are_series(octets_at(octets, span))
 }
 
 /// Returns the same of octets that begin at any bit.

@@ -10,6 +10,7 @@ mod booleans;
 mod enumerations;
 mod identifiers;
 mod integers;
+mod octets;
 mod reals;
 mod sizes;
 mod strings;
@@ -19,8 +20,11 @@ mod times;
 pub use bit_strings::{are_bits_permitted, bit_string};
 pub use booleans::{boolean, null};
 pub use enumerations::enumerated;
-pub use identifiers::{are_subidentifiers, object_identifier, relative_identifier};
+pub use identifiers::{
+    are_subidentifiers, are_subidentifiers_here, object_identifier, relative_identifier,
+};
 pub use integers::{integer, integer_at_least, integer_between, is_minimal};
+pub use octets::octets_at;
 pub use reals::real;
 pub use sizes::has_size;
 pub use strings::{octet_string, utf8_string};

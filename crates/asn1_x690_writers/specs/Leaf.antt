@@ -18,6 +18,12 @@ use Rattle.asn1_x690.specs.TypeContents.{TypeContents}
 use Rattle.asn1_x691_writers.specs.Put.{IsInFragments}
 use Rattle.asn1_x690_writers.specs.Put.{AreTooMany, IsFarWithout}
 
+-- the most frequent types of one part
+abbrev pub is_frequent : Node → Bool
+is_frequent (type.OctetString size is_extensible) = true
+is_frequent type.ObjectIdentifier = true
+is_frequent n = false
+
 abbrev pub enumerated_in : List ℤ → ℕ → TypeTags → Bool → ℕ → ℕ → TypeContents FaultKind
 enumerated_in numbers node t is_extensible last known =
     leaf_of (IsEnumerated (slice_range numbers t.numbers (t.numbers + (last + 1 + known)))) (IsPermittedValue is_extensible) (λ p. p) node

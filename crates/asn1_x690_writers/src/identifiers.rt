@@ -8,7 +8,7 @@ ghost use Rattle.asn1_x690_writers.specs.Written.{IsWritten};
 ghost use Rattle.asn1_x691_writers.specs.Written.{IsGrown};
 
 use crate::octets::put_octet;
-use asn1_x690::{Class, Identifier};
+use asn1_x690::{Class, Identifier, Tag};
 use asn1_x691_writers::put_number;
 
 /// Returns bits 8 and 7 of the first octet (8.1.2.2).
@@ -47,23 +47,33 @@ pub fn put_identifier(octets: &mut [u8], at: usize, id: &Identifier) -> usize
     if id.tag.number < 31 {
         return put_octet(octets, at, first_octet(*id, id.tag.number) as u8);
     }
-    put_high_identifier(octets, at, id)
+    put_high_identifier(octets, at, id.tag.class, id.tag.number, id.is_constructed)
 }
 
-/// Writes identifier octets of a number from 31 on, and returns the index after them. Copies the
-/// identifier, so that the caller can keep its own in registers.
-#[inline(always)]
-fn put_high_identifier(octets: &mut [u8], at: usize, id: &Identifier) -> usize
+/// Writes identifier octets of a number from 31 on, and returns the index after them. Takes the fields
+/// of the identifier, so that the caller can keep them in registers.
+#[cold]
+#[inline(never)]
+fn put_high_identifier(
+    octets: &mut [u8],
+    at: usize,
+    class: Class,
+    number: u64,
+    is_constructed: bool,
+) -> usize
     requires size { 8 * length octets.old < 2 ^ 64 }
-    requires long { 31 ≤ id.now.tag.number }
-    ensures { IsWritten identifier id.now octets.old at octets.new result }
+    requires long { 31 ≤ number }
+    ensures { IsWritten identifier (record { tag = record { class = class; number = number }; is_constructed = is_constructed })
+        octets.old at octets.new result }
 {
-    let own = *id;
+    let own = Identifier {
+        tag: Tag { class, number },
+        is_constructed,
+    };
     put_long_identifier(octets, at, own)
 }
 
 /// Writes identifier octets of a number from 31 on (8.1.2.4). Returns the index after them.
-#[cold]
 fn put_long_identifier(octets: &mut [u8], at: usize, id: Identifier) -> usize
     requires size { 8 * length octets.old < 2 ^ 64 }
     requires long { 31 ≤ id.tag.number }

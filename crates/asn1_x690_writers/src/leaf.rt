@@ -1,7 +1,7 @@
 //! The contents octets of a value of one part.
 
-ghost use Rattle.std.specs.Prelude.{◌*◌, ◌^◌, ◌<◌, length};
-ghost use Rattle.asn1_x690_writers.specs.Leaf.{leaf_in, IsLeftOut};
+ghost use Rattle.std.specs.Prelude.{◌≡◌, ◌*◌, ◌^◌, ◌<◌, false, length};
+ghost use Rattle.asn1_x690_writers.specs.Leaf.{is_frequent, leaf_in, IsLeftOut};
 ghost use Rattle.asn1_x690_writers.specs.Put.{IsPut, LeftAt};
 ghost use Rattle.asn1_x691_writers.specs.Put.{piece_in};
 
@@ -18,6 +18,9 @@ use asn1_x691_writers::{ContentsKind, Writer, reject};
 
 /// Writes the contents octets of a part, as a value of a type of one part. Returns whether it did.
 /// If it returns `false`, the state has the reason.
+// A hint to inline a function that would grow very large is dropped. Its callers have that hint, and keep it
+// where this is a call.
+#[inline(never)]
 pub fn put_leaf(
     octets: &mut [u8],
     ranges: &[Range],
@@ -35,8 +38,6 @@ pub fn put_leaf(
         (piece_in ranges.now source.now part.now) octets.old state.old octets.new state.new result }
 {
     match *kind {
-        Node::Null => put_null(octets, *part, node, state),
-        Node::Boolean => put_boolean(octets, *part, node, state),
         Node::OctetString {
             length,
             is_extensible,
@@ -51,6 +52,33 @@ pub fn put_leaf(
                 state,
             )
         }
+        _ => put_rare_leaf(
+            octets, ranges, numbers, tags, kind, source, part, node, state,
+        ),
+    }
+}
+
+/// Writes the contents octets of a part, as a value of one of the rarer types of one part.
+fn put_rare_leaf(
+    octets: &mut [u8],
+    ranges: &[Range],
+    numbers: &[i128],
+    tags: &TypeTags,
+    kind: &Node,
+    source: &[u8],
+    part: &Part,
+    node: usize,
+    state: &mut Writer,
+) -> bool
+    requires size { 8 * length octets.old < 2 ^ 64 }
+    requires source { 8 * length source.now < 2 ^ 64 }
+    requires rare { is_frequent kind.now ≡ false }
+    ensures { IsPut (LeftAt (IsLeftOut source.now kind.now part.now (piece_in ranges.now source.now part.now)) node state.new) (leaf_in ranges.now numbers.now node tags.now kind.now)
+        (piece_in ranges.now source.now part.now) octets.old state.old octets.new state.new result }
+{
+    match *kind {
+        Node::Null => put_null(octets, *part, node, state),
+        Node::Boolean => put_boolean(octets, *part, node, state),
         Node::RelativeIdentifier => {
             put_kept(
                 octets,

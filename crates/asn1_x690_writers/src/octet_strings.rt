@@ -15,12 +15,13 @@ ghost use Rattle.asn1_x691_writers.specs.Validity.{IsValid};
 use crate::octets::put_span;
 use crate::sizes::has_size;
 use asn1_schema::{Fragments, Length, MisfitKind, Part, Span};
-use asn1_x690_leaves::are_subidentifiers;
+use asn1_x690_leaves::are_subidentifiers_here;
 use asn1_x691_writers::{
     ContentsKind, Writer, clip, is_valid, leave, put_fragments, reject, size_of_fragments,
 };
 
 /// Writes octets of a size that the constraint permits.
+#[inline(always)]
 pub(crate) fn put_octet_string(
     octets: &mut [u8],
     size: Length,
@@ -96,14 +97,15 @@ fn is_of_kind(kind: ContentsKind, source: &[u8], span: Span) -> bool
         return is_valid(kind, source, span);
     }
     match kind {
-        ContentsKind::ObjectIdentifier => are_subidentifiers(source, span),
-        ContentsKind::RelativeIdentifier => are_subidentifiers(source, span),
+        ContentsKind::ObjectIdentifier => are_subidentifiers_here(source, span),
+        ContentsKind::RelativeIdentifier => are_subidentifiers_here(source, span),
         ContentsKind::Utf8 => is_valid(kind, source, span),
         ContentsKind::Real => is_valid(kind, source, span),
     }
 }
 
 /// Writes octets of this kind.
+#[inline(always)]
 pub(crate) fn put_kept(
     octets: &mut [u8],
     kind: ContentsKind,

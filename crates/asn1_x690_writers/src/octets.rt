@@ -4,7 +4,8 @@ ghost use Rattle.std.specs.Prelude.{◌≡◌, ◌+◌, ◌*◌, ◌%◌, ◌^�
 ghost use Rattle.asn1_bits.specs.Bits.{bits, digits};
 ghost use Rattle.asn1_x691_writers.specs.Written.{IsGrown};
 
-use asn1_bits::{BitStr, aligned_octets};
+use asn1_schema::Span;
+use asn1_x690_leaves::octets_at;
 use asn1_x691_writers::{after, put_bits, put_number};
 
 /// Writes an octet from bit `at` on. Returns the index after it.
@@ -37,23 +38,37 @@ fn store(octets: &mut [u8], first: usize, own: &[u8])
 /// Writes `count` bits of a source, from bit `from` on, to bit `at`. Returns the index of the bit
 /// after them.
 ///
-/// The bits must be inside the source. It copies octets if both begin at an octet.
+/// The bits must be inside the source. A few are written as a number, of others the octets are copied
+/// if both begin at an octet.
+#[inline(always)]
 pub fn put_span(octets: &mut [u8], at: usize, source: &[u8], from: usize, count: usize) -> usize
     requires size { 8 * length octets.old < 2 ^ 64 }
     requires within { from + count ≤ 8 * length source.now }
     ensures { IsGrown octets.old at octets.new result (take count (drop from (bits source.now))) }
 {
-    if at % 8 == 0 {
-        if let Some(view) = BitStr::new(source, from, count) {
-            if let Some(own) = aligned_octets(view) {
-                return put_octets(octets, at, own);
-            }
-        }
+    // A number is written with eight octets that are there.
+    if count <= 57 && at / 8 < octets.len().saturating_sub(7) {
+        return put_bits(octets, at, source, from, count);
+    }
+    put_view(octets, at, source, from, count)
+}
+
+/// Writes bits as [`put_span`] does. It copies octets if both begin at an octet.
+#[inline(always)]
+fn put_view(octets: &mut [u8], at: usize, source: &[u8], from: usize, count: usize) -> usize
+    requires size { 8 * length octets.old < 2 ^ 64 }
+    requires within { from + count ≤ 8 * length source.now }
+    ensures { IsGrown octets.old at octets.new result (take count (drop from (bits source.now))) }
+{
+    if at % 8 == 0 && from % 8 == 0 && count % 8 == 0 {
+        let own = octets_at(source, Span { at: from, count });
+        return put_octets(octets, at, own);
     }
     put_bits(octets, at, source, from, count)
 }
 
 /// Writes octets from bit `at` on, which is the first of an octet. Returns the index after them.
+#[inline(always)]
 fn put_octets(octets: &mut [u8], at: usize, own: &[u8]) -> usize
     requires size { 8 * length octets.old < 2 ^ 64 }
     requires own { 8 * length own.now < 2 ^ 64 }

@@ -23,6 +23,7 @@ pub(crate) fn put_null(octets: &mut [u8], part: Part, node: usize, state: &mut W
 }
 
 /// Writes the octet of a BOOLEAN.
+#[inline(always)]
 pub(crate) fn put_boolean(octets: &mut [u8], part: Part, node: usize, state: &mut Writer) -> bool
     requires size { 8 * length octets.old < 2 ^ 64 }
     ensures { (ranges : List Range) (source : List ℕ) → IsPut ⊥ (leaf_of IsBoolean always Truth node) (piece_in ranges source part)

@@ -130,6 +130,7 @@ fn is_text(
 }
 
 /// Writes the characters of a part, each as a number of `width` bits. Returns the index after them.
+#[inline(always)]
 pub(crate) fn put_characters(
     octets: &mut [u8],
     at: usize,
