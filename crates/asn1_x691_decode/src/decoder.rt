@@ -14,10 +14,10 @@ use crate::leaves::{
     decode_relative_identifier, decode_text, decode_time, decode_utf8_string,
 };
 use crate::list::decode_list;
-use crate::open_type::decode_enclosed;
+use crate::open_type::decode_open;
 use crate::room::push;
 use crate::sequence::decode_sequence;
-use asn1_schema::{Member, Node, Part, Presence};
+use asn1_schema::{Node, Part};
 use asn1_x691::FaultKind;
 use asn1_x691_fields::{State, fail};
 
@@ -79,19 +79,7 @@ pub(crate) fn decode_node(
                 parts,
             )
         }
-        Node::Open { inner } => {
-            decode_enclosed(
-                context,
-                depth - 1,
-                node,
-                Member {
-                    node: inner,
-                    presence: Presence::Mandatory,
-                },
-                state,
-                parts,
-            )
-        }
+        Node::Open { inner } => { decode_open(context, depth - 1, node, inner, state, parts) }
         Node::Choice {
             alternatives,
             is_extensible,
@@ -109,7 +97,7 @@ pub(crate) fn decode_node(
             )
         }
         Node::SequenceOf {
-            length,
+            ref length,
             is_extensible,
             item,
         } => {
@@ -126,7 +114,7 @@ pub(crate) fn decode_node(
             )
         }
         Node::SetOf {
-            length,
+            ref length,
             is_extensible,
             item,
         } => {
@@ -143,7 +131,7 @@ pub(crate) fn decode_node(
             )
         }
         Node::IntegerBetween {
-            bounds,
+            ref bounds,
             is_extensible,
         } => decode_integer_between(context, bounds, is_extensible, node, state, parts),
         Node::IntegerAtLeast {
@@ -157,7 +145,7 @@ pub(crate) fn decode_node(
             additions,
         } => decode_enumerated(context, last, is_extensible, additions, node, state, parts),
         Node::BitString {
-            length,
+            ref length,
             is_extensible,
             has_names,
         } => decode_bit_string(
@@ -170,11 +158,11 @@ pub(crate) fn decode_node(
             parts,
         ),
         Node::OctetString {
-            length,
+            ref length,
             is_extensible,
         } => decode_octet_string(context, length, is_extensible, node, state, parts),
         Node::Text {
-            length,
+            ref length,
             is_extensible,
             alphabet,
             whole,

@@ -26,7 +26,7 @@ use asn1_x691_fields::{
 };
 
 /// Decodes a BOOLEAN (X.691 12).
-#[inline(never)]
+#[inline(always)]
 pub(crate) fn decode_boolean(
     context: &Context<'_>,
     node: usize,
@@ -52,7 +52,7 @@ pub(crate) fn decode_boolean(
 #[inline(never)]
 pub(crate) fn decode_integer_between(
     context: &Context<'_>,
-    bounds: Bounds,
+    bounds: &Bounds,
     is_extensible: bool,
     node: usize,
     state: &mut State,
@@ -62,13 +62,13 @@ pub(crate) fn decode_integer_between(
     requires within { IsWithin (bits context.now.octets.now) state.old }
     requires placed { IsPlaced context.now.is_aligned state.old }
     ensures moved { IsMoved (bits context.now.octets.now) state.old state.new }
-    ensures did { Outcome context.now (λ at. (integer_between_by context.now.is_aligned node is_extensible bounds.least bounds.range at).encoding)
+    ensures did { Outcome context.now (λ at. (integer_between_by context.now.is_aligned node is_extensible bounds.now.least bounds.now.range at).encoding)
         state.old state.new parts.old parts.new result }
 {
     let part = next_integer_between_by(
         context.octets,
         context.is_aligned,
-        bounds,
+        *bounds,
         is_extensible,
         node,
         state,
@@ -157,7 +157,7 @@ pub(crate) fn decode_enumerated(
 #[inline(never)]
 pub(crate) fn decode_bit_string(
     context: &Context<'_>,
-    size: Length,
+    size: &Length,
     is_extensible: bool,
     has_names: bool,
     node: usize,
@@ -168,13 +168,13 @@ pub(crate) fn decode_bit_string(
     requires within { IsWithin (bits context.now.octets.now) state.old }
     requires placed { IsPlaced context.now.is_aligned state.old }
     ensures moved { IsMoved (bits context.now.octets.now) state.old state.new }
-    ensures did { Outcome context.now (λ at. (bit_string 0 context.now.is_aligned node size is_extensible has_names at).encoding)
+    ensures did { Outcome context.now (λ at. (bit_string 0 context.now.is_aligned node size.now is_extensible has_names at).encoding)
         state.old state.new parts.old parts.new result }
 {
     let part = next_bit_string(
         context.octets,
         context.is_aligned,
-        size,
+        *size,
         is_extensible,
         has_names,
         node,
@@ -187,7 +187,7 @@ pub(crate) fn decode_bit_string(
 #[inline(never)]
 pub(crate) fn decode_octet_string(
     context: &Context<'_>,
-    size: Length,
+    size: &Length,
     is_extensible: bool,
     node: usize,
     state: &mut State,
@@ -197,13 +197,13 @@ pub(crate) fn decode_octet_string(
     requires within { IsWithin (bits context.now.octets.now) state.old }
     requires placed { IsPlaced context.now.is_aligned state.old }
     ensures moved { IsMoved (bits context.now.octets.now) state.old state.new }
-    ensures did { Outcome context.now (λ at. (octet_string most_fragments context.now.is_aligned node size is_extensible at).encoding)
+    ensures did { Outcome context.now (λ at. (octet_string most_fragments context.now.is_aligned node size.now is_extensible at).encoding)
         state.old state.new parts.old parts.new result }
 {
     let part = next_octet_string(
         context.octets,
         context.is_aligned,
-        size,
+        *size,
         is_extensible,
         node,
         state,
@@ -212,10 +212,10 @@ pub(crate) fn decode_octet_string(
 }
 
 /// Decodes a string of characters of a known alphabet (X.691 30).
-#[inline(never)]
+#[inline(always)]
 pub(crate) fn decode_text(
     context: &Context<'_>,
-    size: Length,
+    size: &Length,
     is_extensible: bool,
     alphabet: Rows,
     whole: Rows,
@@ -227,21 +227,21 @@ pub(crate) fn decode_text(
     requires within { IsWithin (bits context.now.octets.now) state.old }
     requires placed { IsPlaced context.now.is_aligned state.old }
     ensures moved { IsMoved (bits context.now.octets.now) state.old state.new }
-    ensures did { Outcome context.now (λ at. (text 0 context.now.is_aligned node size is_extensible
+    ensures did { Outcome context.now (λ at. (text 0 context.now.is_aligned node size.now is_extensible
         (rows_of context.now.tables.ranges.now alphabet) (rows_of context.now.tables.ranges.now whole) at).encoding)
         state.old state.new parts.old parts.new result }
 {
     if is_extensible {
         return decode_extensible_text(context, size, alphabet, whole, node, state, parts);
     }
-    decode_text_of_root(context, size, alphabet, node, state, parts)
+    decode_text_of_root(context, *size, alphabet, node, state, parts)
 }
 
 /// Decodes a string of characters whose size constraint has an extension marker.
 #[inline(never)]
 fn decode_extensible_text(
     context: &Context<'_>,
-    size: Length,
+    size: &Length,
     alphabet: Rows,
     whole: Rows,
     node: usize,
@@ -252,7 +252,7 @@ fn decode_extensible_text(
     requires within { IsWithin (bits context.now.octets.now) state.old }
     requires placed { IsPlaced context.now.is_aligned state.old }
     ensures moved { IsMoved (bits context.now.octets.now) state.old state.new }
-    ensures did { Outcome context.now (λ at. (text 0 context.now.is_aligned node size true
+    ensures did { Outcome context.now (λ at. (text 0 context.now.is_aligned node size.now true
         (rows_of context.now.tables.ranges.now alphabet) (rows_of context.now.tables.ranges.now whole) at).encoding)
         state.old state.new parts.old parts.new result }
 {
@@ -260,7 +260,7 @@ fn decode_extensible_text(
         context.octets,
         context.is_aligned,
         context.tables.ranges,
-        size,
+        *size,
         alphabet,
         whole,
         node,

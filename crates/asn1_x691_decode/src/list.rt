@@ -23,7 +23,7 @@ pub(crate) fn decode_list(
     context: &Context<'_>,
     depth: usize,
     node: usize,
-    size: Length,
+    size: &Length,
     is_extensible: bool,
     is_set: bool,
     item: usize,
@@ -34,16 +34,16 @@ pub(crate) fn decode_list(
     requires within { IsWithin (bits context.now.octets.now) state.old }
     requires placed { IsPlaced context.now.is_aligned state.old }
     ensures moved { IsMoved (bits context.now.octets.now) state.old state.new }
-    ensures did { Outcome context.now (λ at. (sequence_of_in context.now depth node is_extensible is_set size item at).encoding)
+    ensures did { Outcome context.now (λ at. (sequence_of_in context.now depth node is_extensible is_set size.now item at).encoding)
         state.old state.new parts.old parts.new result }
 {
     if !is_extensible {
-        return decode_root_list(context, depth, node, size, is_set, item, state, parts);
+        return decode_root_list(context, depth, node, *size, is_set, item, state, parts);
     }
     match next_bit(context.octets, node, state) {
         None => false,
-        Some(false) => decode_root_list(context, depth, node, size, is_set, item, state, parts),
-        Some(true) => decode_added_list(context, depth, node, size, is_set, item, state, parts),
+        Some(false) => decode_root_list(context, depth, node, *size, is_set, item, state, parts),
+        Some(true) => decode_added_list(context, depth, node, *size, is_set, item, state, parts),
     }
 }
 

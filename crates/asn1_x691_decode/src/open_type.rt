@@ -51,6 +51,31 @@ pub(crate) fn decode_enclosed(
     true
 }
 
+/// Decodes a value of an open type that is no component, so that it has no default value.
+#[inline(never)]
+#[cycle(decoding)]
+pub(crate) fn decode_open(
+    context: &Context<'_>,
+    depth: usize,
+    node: usize,
+    inner: usize,
+    state: &mut State,
+    parts: &mut [Part],
+) -> bool
+    requires size { 8 * length context.now.octets.now < 2 ^ 64 }
+    requires within { IsWithin (bits context.now.octets.now) state.old }
+    requires placed { IsPlaced context.now.is_aligned state.old }
+    ensures moved { IsMoved (bits context.now.octets.now) state.old state.new }
+    ensures did { Outcome context.now (λ at. (enclosed_in context.now depth node presence.Mandatory inner at).encoding)
+        state.old state.new parts.old parts.new result }
+{
+    let member = Member {
+        node: inner,
+        presence: Presence::Mandatory,
+    };
+    decode_enclosed(context, depth, node, member, state, parts)
+}
+
 /// Decodes a complete encoding (X.691 11.1), from its first bit to its last.
 #[cycle(decoding)]
 pub(crate) fn decode_complete(

@@ -16,7 +16,7 @@ use asn1_x691::FaultKind;
 use asn1_x691_fields::{State, fail, next_bit, next_bits};
 
 /// Decodes a SEQUENCE (X.691 19).
-#[inline(never)]
+#[inline(always)]
 #[cycle(decoding)]
 pub(crate) fn decode_sequence(
     context: &Context<'_>,
@@ -69,7 +69,7 @@ pub(crate) fn decode_sequence(
 
 /// Decodes the root of a SEQUENCE: the bits that tell which components are present, and these
 /// (X.691 19.2 to 19.4).
-#[inline(never)]
+#[inline(always)]
 #[cycle(decoding)]
 pub(crate) fn decode_root(
     context: &Context<'_>,

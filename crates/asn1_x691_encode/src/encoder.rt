@@ -11,10 +11,10 @@ use crate::leaves::{
     encode_integer, encode_null, encode_octets,
 };
 use crate::list::encode_list_by;
-use crate::open_type::encode_open_type;
+use crate::open_type::encode_open;
 use crate::sequence::{encode_extensible_sequence, encode_sequence};
 use crate::texts::{encode_text, encode_time};
-use asn1_schema::{MisfitKind, Node, Presence};
+use asn1_schema::{MisfitKind, Node};
 use asn1_x691_writers::{ContentsKind, Writer, reject};
 
 /// Returns the type at a node.
@@ -59,7 +59,7 @@ pub fn encode_node(
         Node::Null => encode_null(context, node, octets, state),
         Node::Boolean => encode_boolean(context, node, octets, state),
         Node::IntegerBetween {
-            bounds,
+            ref bounds,
             is_extensible,
         } => { encode_between(context, bounds, is_extensible, node, octets, state) }
         Node::IntegerAtLeast {
@@ -83,7 +83,7 @@ pub fn encode_node(
             )
         }
         Node::BitString {
-            length,
+            ref length,
             is_extensible,
             has_names,
         } => {
@@ -98,11 +98,11 @@ pub fn encode_node(
             )
         }
         Node::OctetString {
-            length,
+            ref length,
             is_extensible,
         } => { encode_octets(context, length, is_extensible, node, octets, state) }
         Node::Text {
-            length,
+            ref length,
             is_extensible,
             alphabet,
             whole,
@@ -152,7 +152,7 @@ pub fn encode_node(
             encode_sequence(context, depth - 1, node, root, octets, state)
         }
         Node::SequenceOf {
-            length,
+            ref length,
             is_extensible,
             item,
         } => {
@@ -169,7 +169,7 @@ pub fn encode_node(
             )
         }
         Node::SetOf {
-            length,
+            ref length,
             is_extensible,
             item,
         } => {
@@ -203,16 +203,6 @@ pub fn encode_node(
             }
             encode_choice(context, depth - 1, node, alternatives, octets, state)
         }
-        Node::Open { inner } => {
-            encode_open_type(
-                context,
-                depth - 1,
-                node,
-                Presence::Mandatory,
-                inner,
-                octets,
-                state,
-            )
-        }
+        Node::Open { inner } => { encode_open(context, depth - 1, node, inner, octets, state) }
     }
 }

@@ -70,7 +70,7 @@ pub(crate) fn encode_integer(
 #[inline(never)]
 pub(crate) fn encode_between(
     context: &Context<'_>,
-    bounds: Bounds,
+    bounds: &Bounds,
     is_extensible: bool,
     node: usize,
     octets: &mut [u8],
@@ -79,7 +79,7 @@ pub(crate) fn encode_between(
     requires size { 8 * length octets.old < 2 ^ 64 }
     requires source { 8 * length context.now.source.now < 2 ^ 64 }
     requires parts { length context.now.parts.now < 2 ^ 64 - 1 }
-    ensures { Outcome context.now (integer_between_by context.now.is_aligned node is_extensible bounds.least bounds.range) octets.old state.old octets.new state.new result }
+    ensures { Outcome context.now (integer_between_by context.now.is_aligned node is_extensible bounds.now.least bounds.now.range) octets.old state.old octets.new state.new result }
 {
     match part_at(context.parts, state.next) {
         None => reject(state, node, MisfitKind::NoPart),
@@ -87,7 +87,7 @@ pub(crate) fn encode_between(
             put_integer_between(
                 octets,
                 context.is_aligned,
-                bounds,
+                *bounds,
                 is_extensible,
                 context.source,
                 part,
@@ -171,7 +171,7 @@ pub(crate) fn encode_enumerated(
 #[inline(never)]
 pub(crate) fn encode_bits(
     context: &Context<'_>,
-    size: Length,
+    size: &Length,
     is_extensible: bool,
     has_names: bool,
     node: usize,
@@ -181,7 +181,7 @@ pub(crate) fn encode_bits(
     requires size { 8 * length octets.old < 2 ^ 64 }
     requires source { 8 * length context.now.source.now < 2 ^ 64 }
     requires parts { length context.now.parts.now < 2 ^ 64 - 1 }
-    ensures { Outcome context.now (bit_string most_fragments context.now.is_aligned node size is_extensible has_names) octets.old state.old octets.new state.new result }
+    ensures { Outcome context.now (bit_string most_fragments context.now.is_aligned node size.now is_extensible has_names) octets.old state.old octets.new state.new result }
 {
     match part_at(context.parts, state.next) {
         None => reject(state, node, MisfitKind::NoPart),
@@ -189,7 +189,7 @@ pub(crate) fn encode_bits(
             put_bit_string(
                 octets,
                 context.is_aligned,
-                size,
+                *size,
                 is_extensible,
                 has_names,
                 context.source,
@@ -206,7 +206,7 @@ pub(crate) fn encode_bits(
 #[inline(never)]
 pub(crate) fn encode_octets(
     context: &Context<'_>,
-    size: Length,
+    size: &Length,
     is_extensible: bool,
     node: usize,
     octets: &mut [u8],
@@ -215,7 +215,7 @@ pub(crate) fn encode_octets(
     requires size { 8 * length octets.old < 2 ^ 64 }
     requires source { 8 * length context.now.source.now < 2 ^ 64 }
     requires parts { length context.now.parts.now < 2 ^ 64 - 1 }
-    ensures { Outcome context.now (octet_string most_fragments context.now.is_aligned node size is_extensible) octets.old state.old octets.new state.new result }
+    ensures { Outcome context.now (octet_string most_fragments context.now.is_aligned node size.now is_extensible) octets.old state.old octets.new state.new result }
 {
     match part_at(context.parts, state.next) {
         None => reject(state, node, MisfitKind::NoPart),
@@ -223,7 +223,7 @@ pub(crate) fn encode_octets(
             put_octet_string(
                 octets,
                 context.is_aligned,
-                size,
+                *size,
                 is_extensible,
                 context.source,
                 part,

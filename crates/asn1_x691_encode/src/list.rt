@@ -27,7 +27,7 @@ pub(crate) fn encode_list_by(
     node: usize,
     is_extensible: bool,
     is_set: bool,
-    size: Length,
+    size: &Length,
     item: usize,
     octets: &mut [u8],
     state: &mut Writer,
@@ -35,12 +35,12 @@ pub(crate) fn encode_list_by(
     requires size { 8 * length octets.old < 2 ^ 64 }
     requires source { 8 * length context.now.source.now < 2 ^ 64 }
     requires parts { length context.now.parts.now < 2 ^ 64 - 1 }
-    ensures { Outcome context.now (list_by context.now depth node is_extensible is_set size item) octets.old state.old octets.new state.new result }
+    ensures { Outcome context.now (list_by context.now depth node is_extensible is_set size.now item) octets.old state.old octets.new state.new result }
 {
     if is_extensible {
-        return encode_extensible_list(context, depth, node, size, is_set, item, octets, state);
+        return encode_extensible_list(context, depth, node, *size, is_set, item, octets, state);
     }
-    encode_list(context, depth, node, size, is_set, item, octets, state)
+    encode_list(context, depth, node, *size, is_set, item, octets, state)
 }
 
 /// Encodes a SEQUENCE OF without an extension marker (X.691 20.5, 20.6).

@@ -1,6 +1,7 @@
 //! Encodes open types (X.691 11.2).
 
 ghost use Rattle.std.specs.Prelude.{Option, ◌≡◌, ℕ, Bool, List, ◌-◌, ◌*◌, ◌%◌, ◌^◌, ◌<◌, length};
+ghost use Rattle.asn1_schema.specs.declared.tables.Presence.TheVariants as presence;
 ghost use Rattle.asn1_x691_writers.specs.Written.{IsAlike, IsGrown, start_of};
 ghost use Rattle.asn1_x691_encode.specs.Encoding.{Outcome, open_in};
 ghost use Rattle.asn1_x691_encode.specs.Enclosed.{EnclosedOutcome};
@@ -19,6 +20,34 @@ fn put_beginning(octets: &mut [u8], at: usize, is_aligned: bool) -> usize
     ensures begins { IsAlike is_aligned 0 (result % 8) }
 {
     put_start(octets, at, is_aligned)
+}
+
+/// Encodes a value of an open type that is no component, so that it has no default value.
+#[inline(never)]
+#[cycle(encoding)]
+pub(crate) fn encode_open(
+    context: &Context<'_>,
+    depth: usize,
+    node: usize,
+    inner: usize,
+    octets: &mut [u8],
+    state: &mut Writer,
+) -> bool
+    requires size { 8 * length octets.old < 2 ^ 64 }
+    requires source { 8 * length context.now.source.now < 2 ^ 64 }
+    requires parts { length context.now.parts.now < 2 ^ 64 - 1 }
+    ensures { Outcome context.now (open_in context.now depth node presence.Mandatory inner) octets.old state.old
+        octets.new state.new result }
+{
+    encode_open_type(
+        context,
+        depth,
+        node,
+        Presence::Mandatory,
+        inner,
+        octets,
+        state,
+    )
 }
 
 /// Encodes an open type that holds a value of the type at the node `inner`, which must not be the

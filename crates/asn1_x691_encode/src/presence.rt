@@ -1,9 +1,12 @@
 //! Bits that tell which components are present (X.691 19.2, 19.3).
 
-ghost use Rattle.std.specs.Prelude.{◌≡◌, ◌+◌, ◌-◌, ◌≤◌, ◌<◌, length, slice_get, Some};
+ghost use Rattle.std.specs.Prelude.{◌≡◌, ◌+◌, ◌-◌, ◌*◌, ◌^◌, ◌≤◌, ◌<◌, length, slice_get, Some};
+ghost use Rattle.asn1_bits.specs.Bits.{digits};
 ghost use Rattle.asn1_x691.specs.Types.{optional_count, presence_bits};
+ghost use Rattle.asn1_x691_writers.specs.Written.{IsGrown};
 
 use asn1_schema::{Member, Presence, Rows};
+use asn1_x691_writers::put_zeros;
 
 /// Returns how many of so many members from an index on there are.
 fn known_of(members: &[Member], rows: Rows) -> usize
@@ -49,4 +52,17 @@ pub(crate) fn count_optional(members: &[Member], rows: Rows) -> usize
         count += presence_bits(member.presence);
     }
     count
+}
+
+/// Writes a zero for each component that may be absent, from bit `at` on, and returns the index after
+/// them. Most types have none.
+#[inline(always)]
+pub(crate) fn put_presence(octets: &mut [u8], at: usize, count: usize) -> usize
+    requires { 8 * length octets.old < 2 ^ 64 }
+    ensures { IsGrown octets.old at octets.new result (digits 0 count) }
+{
+    if count == 0 {
+        return at;
+    }
+    put_zeros(octets, at, count)
 }

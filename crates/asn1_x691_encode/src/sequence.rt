@@ -12,13 +12,13 @@ ghost use Rattle.asn1_x691_encode.specs.Components.{OptionalOutcome, ComponentOu
 use crate::additions::encode_extension;
 use crate::context::{Context, member_from, part_at};
 use crate::encoder::encode_node;
-use crate::presence::{count_optional, presence_bits};
+use crate::presence::{count_optional, presence_bits, put_presence};
 use crate::value::encode_value;
 use asn1_schema::{Member, MisfitKind, Part, Presence, Rows};
-use asn1_x691_writers::{Writer, after, put_bit, put_zeros, reject, set_bit};
+use asn1_x691_writers::{Writer, after, put_bit, reject, set_bit};
 
 /// Encodes a SEQUENCE without an extension marker (X.691 19.2 to 19.4).
-#[inline(never)]
+#[inline(always)]
 #[cycle(encoding)]
 pub(crate) fn encode_sequence(
     context: &Context<'_>,
@@ -47,7 +47,7 @@ pub(crate) fn encode_sequence(
 }
 
 /// Encodes a SEQUENCE that has an extension marker (X.691 19.1).
-#[inline(never)]
+#[inline(always)]
 #[cycle(encoding)]
 pub(crate) fn encode_extensible_sequence(
     context: &Context<'_>,
@@ -118,6 +118,7 @@ fn is_sequence(part: Part, count: usize, is_extended: bool) -> bool
 
 /// Encodes the components of a root after their presence bits. A bit is written as 0, and set where
 /// its component is present.
+#[inline(always)]
 #[cycle(encoding)]
 fn encode_root(
     context: &Context<'_>,
@@ -135,7 +136,7 @@ fn encode_root(
 {
     let members = context.tables.members;
     let mut head = state.at;
-    state.at = put_zeros(octets, head, count_optional(members, root));
+    state.at = put_presence(octets, head, count_optional(members, root));
     let mut index = 0;
     while index < root.count as usize {
         let Some(member) = member_from(members, root.from, index) else {
@@ -151,6 +152,7 @@ fn encode_root(
 }
 
 /// Encodes a component, whose presence bit is at `head` where it has one.
+#[inline(always)]
 #[cycle(encoding)]
 fn encode_component(
     context: &Context<'_>,

@@ -12,10 +12,10 @@ use asn1_schema::{Length, MisfitKind, Rows, TimeKind};
 use asn1_x691_writers::{Writer, put_text, put_time, reject};
 
 /// Encodes a string of characters (X.691 30.1 to 30.5).
-#[inline(never)]
+#[inline(always)]
 pub(crate) fn encode_text(
     context: &Context<'_>,
-    size: Length,
+    size: &Length,
     is_extensible: bool,
     alphabet: Rows,
     whole: Rows,
@@ -26,7 +26,7 @@ pub(crate) fn encode_text(
     requires size { 8 * length octets.old < 2 ^ 64 }
     requires source { 8 * length context.now.source.now < 2 ^ 64 }
     requires parts { length context.now.parts.now < 2 ^ 64 - 1 }
-    ensures { Outcome context.now (text most_fragments context.now.is_aligned node size is_extensible (rows_of context.now.tables.ranges.now alphabet)
+    ensures { Outcome context.now (text most_fragments context.now.is_aligned node size.now is_extensible (rows_of context.now.tables.ranges.now alphabet)
         (rows_of context.now.tables.ranges.now whole)) octets.old state.old octets.new state.new result }
 {
     match part_at(context.parts, state.next) {
@@ -36,7 +36,7 @@ pub(crate) fn encode_text(
                 octets,
                 context.is_aligned,
                 context.tables.ranges,
-                size,
+                *size,
                 is_extensible,
                 alphabet,
                 whole,

@@ -22,6 +22,9 @@ decreases-sequence::decode_component l = 16 * l.depth + 3
 abbrev pub decreases-open_type::decode_complete : goal.decreases-open_type::decode_complete
 decreases-open_type::decode_complete l = 16 * l.depth + 3
 
+abbrev pub decreases-open_type::decode_open : goal.decreases-open_type::decode_open
+decreases-open_type::decode_open l = 16 * l.depth + 5
+
 abbrev pub decreases-open_type::decode_enclosed : goal.decreases-open_type::decode_enclosed
 decreases-open_type::decode_enclosed l = 16 * l.depth + 4
 

@@ -104,6 +104,9 @@ decreases-sequence::encode_root-loop-index l = l.root.count - l.index
 abbrev pub decreases-open_type::encode_octets : goal.decreases-open_type::encode_octets
 decreases-open_type::encode_octets l = 32 * l.depth + 4
 
+abbrev pub decreases-open_type::encode_open : goal.decreases-open_type::encode_open
+decreases-open_type::encode_open l = 32 * l.depth + 6
+
 abbrev pub decreases-open_type::encode_open_type : goal.decreases-open_type::encode_open_type
 decreases-open_type::encode_open_type l = 32 * l.depth + 5
 

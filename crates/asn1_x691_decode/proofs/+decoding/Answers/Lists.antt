@@ -116,11 +116,11 @@ decode_list-returns-in-Some-true-clause-did t c =
     let a = c.args in
     let mid = c.next_bit.new.state in
     let last = c.decode_added_list in
-    let S : Bool → ℕ → Encoding FaultKind Parts = λ x at. (sequence_of_in cx a.depth a.node x a.is_set a.size a.item at).encoding in
+    let S : Bool → ℕ → Encoding FaultKind Parts = λ x at. (sequence_of_in cx a.depth a.node x a.is_set a.size.now a.item at).encoding in
     subst (λ (x : Bool). Outcome cx (S x) a.state.now last.new.state a.parts.now last.new.parts last.result) (sym c.if-not-is_extensible.false)
-    (outcome_on cx (S true) (list.after_bit cx a.depth a.node a.is_set a.item a.size true) a.state.now mid last.new.state a.parts.now a.parts.now
+    (outcome_on cx (S true) (list.after_bit cx a.depth a.node a.is_set a.item a.size.now true) a.state.now mid last.new.state a.parts.now a.parts.now
     last.new.parts last.result
-    (list.bit_step cx a.depth a.node a.is_set a.item a.size true a.state.now mid a.parts.now c.requires.within c.next_bit.ensures.onward
+    (list.bit_step cx a.depth a.node a.is_set a.item a.size.now true a.state.now mid a.parts.now c.requires.within c.next_bit.ensures.onward
     (subst (λ (b : Bool). Starts (bit a.node).encodes (rest bs a.state.now) b (rest bs mid)) c.in-Some-true.field-0-test
     c.in-Some-true.ensures.read))
     last.ensures.did)
@@ -132,11 +132,11 @@ decode_list-returns-in-Some-false-clause-did t c =
     let a = c.args in
     let mid = c.next_bit.new.state in
     let last = c.decode_root_list-in-Some-false in
-    let S : Bool → ℕ → Encoding FaultKind Parts = λ x at. (sequence_of_in cx a.depth a.node x a.is_set a.size a.item at).encoding in
+    let S : Bool → ℕ → Encoding FaultKind Parts = λ x at. (sequence_of_in cx a.depth a.node x a.is_set a.size.now a.item at).encoding in
     subst (λ (x : Bool). Outcome cx (S x) a.state.now last.new.state a.parts.now last.new.parts last.result) (sym c.if-not-is_extensible.false)
-    (outcome_on cx (S true) (list.after_bit cx a.depth a.node a.is_set a.item a.size false) a.state.now mid last.new.state a.parts.now a.parts.now
+    (outcome_on cx (S true) (list.after_bit cx a.depth a.node a.is_set a.item a.size.now false) a.state.now mid last.new.state a.parts.now a.parts.now
     last.new.parts last.result
-    (list.bit_step cx a.depth a.node a.is_set a.item a.size false a.state.now mid a.parts.now c.requires.within c.next_bit.ensures.onward
+    (list.bit_step cx a.depth a.node a.is_set a.item a.size.now false a.state.now mid a.parts.now c.requires.within c.next_bit.ensures.onward
     (subst (λ (b : Bool). Starts (bit a.node).encodes (rest bs a.state.now) b (rest bs mid)) c.in-Some-false.field-0-test
     c.in-Some-false.ensures.read))
     last.ensures.did)

@@ -51,10 +51,10 @@ pub decode_node-returns-in-Open-clause-did : goal.decoder::decode_node-returns-i
 decode_node-returns-in-Open-clause-did t c =
     let cx = c.args.context.now in
     at_node cx c.args.node c.args.depth (Some (type.Open c.in-Open.inner))
-    (λ (A : ℕ → Encoding FaultKind Parts). Outcome cx A c.args.state.now c.decode_enclosed.new.state c.args.parts.now c.decode_enclosed.new.parts
-    c.decode_enclosed.result)
+    (λ (A : ℕ → Encoding FaultKind Parts). Outcome cx A c.args.state.now c.decode_open.new.state c.args.parts.now c.decode_open.new.parts
+    c.decode_open.result)
     (omega (arith, c.if-depth-eq0.false))
-    (sym c.in-Some.ensures ∙ ap (λ (n : Node). Some n) c.in-Open.is) c.decode_enclosed.ensures.did
+    (sym c.in-Some.ensures ∙ ap (λ (n : Node). Some n) c.in-Open.is) c.decode_open.ensures.did
 
 pub decode_node-returns-in-Choice-clause-did : goal.decoder::decode_node-returns-in-Choice-clause-did
 decode_node-returns-in-Choice-clause-did t c =

@@ -10,5 +10,5 @@ returns-clause-did c =
     let a = c.args in
     let p = c.next_extensible_text-part in
     let k = c.keep in
-    kept_outcome cx (λ at. (text 0 cx.is_aligned a.node a.size true (rows_of cx.tables.ranges.now a.alphabet) (rows_of cx.tables.ranges.now a.whole) at).encoding) a.state.now p.new.state k.new.state a.parts.now k.new.parts p.result k.result
+    kept_outcome cx (λ at. (text 0 cx.is_aligned a.node a.size.now true (rows_of cx.tables.ranges.now a.alphabet) (rows_of cx.tables.ranges.now a.whole) at).encoding) a.state.now p.new.state k.new.state a.parts.now k.new.parts p.result k.result
     p.ensures.onward (p.ensures.read) (record { at = k.ensures.at; first = k.ensures.first; end = k.ensures.end }) k.ensures.kept

@@ -8,5 +8,5 @@ returns-clause-did c =
     let a = c.args in
     let p = c.next_integer_between_by-part in
     let k = c.keep in
-    kept_outcome cx (λ at. (integer_between_by cx.is_aligned a.node a.is_extensible a.bounds.least a.bounds.range at).encoding) a.state.now p.new.state k.new.state a.parts.now k.new.parts p.result k.result
+    kept_outcome cx (λ at. (integer_between_by cx.is_aligned a.node a.is_extensible a.bounds.now.least a.bounds.now.range at).encoding) a.state.now p.new.state k.new.state a.parts.now k.new.parts p.result k.result
     p.ensures.onward (p.ensures.read cx.tables.ranges.now) (record { at = k.ensures.at; first = k.ensures.first; end = k.ensures.end }) k.ensures.kept

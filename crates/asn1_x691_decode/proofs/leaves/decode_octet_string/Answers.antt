@@ -9,5 +9,5 @@ returns-clause-did c =
     let a = c.args in
     let p = c.next_octet_string-part in
     let k = c.keep in
-    kept_outcome cx (λ at. (octet_string most_fragments cx.is_aligned a.node a.size a.is_extensible at).encoding) a.state.now p.new.state k.new.state a.parts.now k.new.parts p.result k.result
+    kept_outcome cx (λ at. (octet_string most_fragments cx.is_aligned a.node a.size.now a.is_extensible at).encoding) a.state.now p.new.state k.new.state a.parts.now k.new.parts p.result k.result
     p.ensures.onward (p.ensures.read cx.tables.ranges.now) (record { at = k.ensures.at; first = k.ensures.first; end = k.ensures.end }) k.ensures.kept

@@ -9,7 +9,7 @@ returns-then-is_extensible-clause-did c =
     let cx = c.args.context.now in
     let a = c.args in
     let p = c.decode_extensible_text in
-    subst (λ (b : Bool). Outcome cx (λ at. (text 0 cx.is_aligned a.node a.size b (rows_of cx.tables.ranges.now a.alphabet)
+    subst (λ (b : Bool). Outcome cx (λ at. (text 0 cx.is_aligned a.node a.size.now b (rows_of cx.tables.ranges.now a.alphabet)
     (rows_of cx.tables.ranges.now a.whole) at).encoding) a.state.now p.new.state a.parts.now p.new.parts p.result)
     (sym c.if-is_extensible.true) p.ensures.did
 
@@ -18,6 +18,6 @@ returns-clause-did c =
     let cx = c.args.context.now in
     let a = c.args in
     let p = c.decode_text_of_root in
-    subst (λ (b : Bool). Outcome cx (λ at. (text 0 cx.is_aligned a.node a.size b (rows_of cx.tables.ranges.now a.alphabet)
+    subst (λ (b : Bool). Outcome cx (λ at. (text 0 cx.is_aligned a.node a.size.now b (rows_of cx.tables.ranges.now a.alphabet)
     (rows_of cx.tables.ranges.now a.whole) at).encoding) a.state.now p.new.state a.parts.now p.new.parts p.result)
     (sym c.if-is_extensible.false) p.ensures.did

@@ -189,7 +189,7 @@ encode_list_by-returns-then-is_extensible t c =
     let a = c.args in
     let k = c.encode_extensible_list in
     subst
-    (λ (b : Bool). Outcome a.context.now (list_by a.context.now a.depth a.node b a.is_set a.size a.item) a.octets.now a.state.now k.new.octets
+    (λ (b : Bool). Outcome a.context.now (list_by a.context.now a.depth a.node b a.is_set a.size.now a.item) a.octets.now a.state.now k.new.octets
     k.new.state k.result) (sym c.if-is_extensible.true) k.ensures
 
 pub encode_list_by-returns : goal.list::encode_list_by-returns
@@ -197,7 +197,7 @@ encode_list_by-returns t c =
     let a = c.args in
     let k = c.encode_list in
     subst
-    (λ (b : Bool). Outcome a.context.now (list_by a.context.now a.depth a.node b a.is_set a.size a.item) a.octets.now a.state.now k.new.octets
+    (λ (b : Bool). Outcome a.context.now (list_by a.context.now a.depth a.node b a.is_set a.size.now a.item) a.octets.now a.state.now k.new.octets
     k.new.state k.result) (sym c.if-is_extensible.false) k.ensures
 
 pub encode_items-returns-then-not-encode_node : goal.list::encode_items-returns-then-not-encode_node

@@ -13,7 +13,7 @@ pub encode_node-returns-in-Open : goal.encoder::encode_node-returns-in-Open
 encode_node-returns-in-Open t c =
     let cx = c.args.context.now in
     let k = c.in-Open in
-    let last = c.encode_open_type in
+    let last = c.encode_open in
     at_node cx c.args.node c.args.depth (Some (type.Open k.inner))
     (λ (A : ℕ → TypeEncoding FaultKind). Outcome cx A c.args.octets.now c.args.state.now last.new.octets last.new.state last.result)
     (omega (arith, c.if-depth-eq0.false)) (sym c.in-Some.ensures ∙ ap (λ (n : Node). Some n) k.is)

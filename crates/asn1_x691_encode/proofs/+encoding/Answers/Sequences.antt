@@ -52,7 +52,7 @@ encode_root-loop-index-init t c =
     let cx = a.context.now in
     let members = cx.tables.members.now in
     let old = a.state.now in
-    let bits = c.put_zeros-state in
+    let bits = c.put_presence-state in
     let mid = record old { at = bits.result } in
     let count : a.root.count ≡ a.root.count - 0 = omega arith in
     let from : a.root.from ≡ a.root.from + 0 = omega arith in
@@ -75,7 +75,7 @@ encode_root-returns-in_default t c =
     let cx = a.context.now in
     let members = cx.tables.members.now in
     let old = a.state.now in
-    let bits = c.put_zeros-state in
+    let bits = c.put_presence-state in
     let mid = record old { at = bits.result } in
     let l = c.loop-index in
     let left = a.root.count - l.index in
@@ -98,7 +98,7 @@ encode_root-returns-then-not-encode_component t c =
     let cx = a.context.now in
     let members = cx.tables.members.now in
     let old = a.state.now in
-    let bits = c.put_zeros-state in
+    let bits = c.put_presence-state in
     let mid = record old { at = bits.result } in
     let l = c.loop-index in
     let m = c.in-Some.member in
@@ -131,7 +131,7 @@ encode_root-loop-index-preserved t c =
     let cx = a.context.now in
     let members = cx.tables.members.now in
     let old = a.state.now in
-    let bits = c.put_zeros-state in
+    let bits = c.put_presence-state in
     let mid = record old { at = bits.result } in
     let l = c.loop-index in
     let m = c.in-Some.member in
@@ -171,7 +171,7 @@ encode_root-returns t c =
     let cx = a.context.now in
     let members = cx.tables.members.now in
     let old = a.state.now in
-    let bits = c.put_zeros-state in
+    let bits = c.put_presence-state in
     let mid = record old { at = bits.result } in
     let l = c.loop-index in
     let g = subst (λ (n : ℕ). IsGrown a.octets.now old.at bits.new.octets bits.result (digits 0 n)) c.count_optional.ensures bits.ensures in

@@ -6,21 +6,21 @@ use Rattle.asn1_x691_encode.proofs.leaves.encode_between.Goals as goal
 
 pub returns-in-Some : goal.returns-in-Some
 returns-in-Some c =
-    after_put c.args.context.now (integer_between_by c.args.context.now.is_aligned c.args.node c.args.is_extensible c.args.bounds.least c.args.bounds.range) c.in-Some.part c.args.octets.now c.put_integer_between.new.octets c.args.state.now c.put_integer_between.new.state c.pass.new.state
+    after_put c.args.context.now (integer_between_by c.args.context.now.is_aligned c.args.node c.args.is_extensible c.args.bounds.now.least c.args.bounds.now.range) c.in-Some.part c.args.octets.now c.put_integer_between.new.octets c.args.state.now c.put_integer_between.new.state c.pass.new.state
     (sym c.in-Some.ensures) c.pass.ensures.at c.pass.ensures.node c.pass.ensures.reason c.put_integer_between.result c.pass.result c.pass.ensures.result
     (c.put_integer_between.ensures c.args.context.now.tables.ranges.now) c.pass.ensures.passed c.pass.ensures.kept
 
 pub returns-in-None : goal.returns-in-None
 returns-in-None c =
-    after_none c.args.context.now (integer_between_by c.args.context.now.is_aligned c.args.node c.args.is_extensible c.args.bounds.least c.args.bounds.range) c.args.octets.now c.args.octets.now
+    after_none c.args.context.now (integer_between_by c.args.context.now.is_aligned c.args.node c.args.is_extensible c.args.bounds.now.least c.args.bounds.now.range) c.args.octets.now c.args.octets.now
     c.args.state.now c.reject.new.state c.reject.result c.args.node (sym c.in-None.ensures) c.reject.ensures.result c.reject.ensures.next
     c.reject.ensures.node c.reject.ensures.reason (λ at.
     elim c.args.is_extensible as
-    (λ b. (integer_between_by c.args.context.now.is_aligned c.args.node b c.args.bounds.least c.args.bounds.range at).misfit [] (record { node = c.args.node; left = 0; kind = NoPart }))
+    (λ b. (integer_between_by c.args.context.now.is_aligned c.args.node b c.args.bounds.now.least c.args.bounds.now.range at).misfit [] (record { node = c.args.node; left = 0; kind = NoPart }))
     [ true ↦ inl refl | false ↦ refl ])
 
 pub pass-requires : goal.pass-requires
 pass-requires c =
-    next_fits c.args.context.now (integer_between_by c.args.context.now.is_aligned c.args.node c.args.is_extensible c.args.bounds.least c.args.bounds.range) c.in-Some.part c.args.octets.now c.put_integer_between.new.octets
+    next_fits c.args.context.now (integer_between_by c.args.context.now.is_aligned c.args.node c.args.is_extensible c.args.bounds.now.least c.args.bounds.now.range) c.in-Some.part c.args.octets.now c.put_integer_between.new.octets
     c.args.state.now c.put_integer_between.new.state c.put_integer_between.result (sym c.in-Some.ensures) c.requires.parts
     (c.put_integer_between.ensures c.args.context.now.tables.ranges.now)
