@@ -29,13 +29,13 @@ const UNKNOWN: Extent = Extent {
     most: NONE,
 };
 
-/// The extent of an open type with so many contents octets at least, and of other types whose length is
-/// not bounded.
+/// Returns the extent of an open type with so many contents octets at least, and of other types
+/// whose length is not bounded.
 const fn unbounded(least: u64) -> Extent {
     Extent { least, most: NONE }
 }
 
-/// The extent of values of so many bits.
+/// Returns the extent of values of so many bits.
 const fn fixed(bits: u64) -> Extent {
     Extent {
         least: bits,

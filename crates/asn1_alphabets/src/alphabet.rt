@@ -71,7 +71,7 @@ impl<'s> CharacterAlphabet<'s> {
         }
     }
 
-    /// The alphabet of an effective set.
+    /// Returns the alphabet of an effective set.
     #[inline(always)]
     fn of_set(set: EffectiveSet<'s>, aligned: bool) -> CharacterAlphabet<'s>
         requires { length (characters_of set) ≤ 2 ^ 32 }
@@ -98,7 +98,7 @@ impl<'s> CharacterAlphabet<'s> {
         }
     }
 
-    /// The alphabet of a string with this permitted set.
+    /// Returns the alphabet of a string with this permitted set.
     #[inline(never)]
     fn permitted_by(name: CharacterSetName, set: &'s [u32], aligned: bool) -> CharacterAlphabet<'s>
         requires { length set.now ≤ 2 ^ 32 }
@@ -209,14 +209,14 @@ impl<'s> CharacterAlphabet<'s> {
         }
     }
 
-    /// The permitted set, where it is kept.
+    /// Returns the permitted set, where it is kept.
     fn permitted(&self) -> Option<&'s [u32]>
         ensures { result ≡ some_if self.now.kept self.now.set }
     {
         if self.kept { Some(self.set) } else { None }
     }
 
-    /// The error for a character that the set lacks.
+    /// Returns the error for a character that the set lacks.
     #[cold]
     #[inline(never)]
     fn missing(&self, character: u32) -> PermittedAlphabetError
@@ -230,7 +230,7 @@ impl<'s> CharacterAlphabet<'s> {
         }
     }
 
-    /// The error for a number that is no code.
+    /// Returns the error for a number that is no code.
     #[cold]
     #[inline(never)]
     fn uncoded(&self, code: u32) -> PermittedAlphabetError
@@ -245,7 +245,7 @@ impl<'s> CharacterAlphabet<'s> {
         }
     }
 
-    /// A code of the character, and None where it has none.
+    /// Returns a code of the character, and `None` if it has none.
     #[inline(always)]
     fn code_of(&self, character: u32, probes: &mut Turns) -> Option<u32>
         ensures code { MatchOption result
@@ -272,7 +272,7 @@ impl<'s> CharacterAlphabet<'s> {
         }
     }
 
-    /// The character of the code, and None where it is no code.
+    /// Returns the character of the code, and `None` if it is no code.
     #[inline(always)]
     fn character_of(&self, code: u32) -> Option<u32>
         ensures { MatchOption result ((c : ℕ) → ¬ (IsCode (alphabet_of self.now) c code))
@@ -288,8 +288,8 @@ impl<'s> CharacterAlphabet<'s> {
         }
     }
 
-    /// Whether the set has the character: by its ends where it is contiguous, by its words where it
-    /// has any.
+    /// Returns whether the set has the character: by its ends where it is contiguous, by its words
+    /// where it has any.
     #[inline(always)]
     fn contains_counted(&self, character: u32, probes: &mut Turns) -> bool
         ensures value { result ≡ has_character (alphabet_of self.now).characters character }
@@ -322,7 +322,7 @@ impl<'s> CharacterAlphabet<'s> {
         }
     }
 
-    /// A place of the character, in a set that is written by places and not contiguous.
+    /// Returns an index of the character, in a set that is written by indices and not contiguous.
     #[inline(always)]
     fn place_of(&self, character: u32, probes: &mut Turns) -> Option<u32>
         requires { self.now.indexed ≡ true }
@@ -341,7 +341,7 @@ impl<'s> CharacterAlphabet<'s> {
         }
     }
 
-    /// The character at a place: in a contiguous set it is that far from the first.
+    /// Returns the character at an index: in a contiguous set it is that far from the first.
     #[inline(always)]
     fn character_at(&self, place: u32) -> Option<u32>
         ensures { result ≡ slice_get (alphabet_of self.now).characters place }

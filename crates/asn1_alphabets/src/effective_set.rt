@@ -25,7 +25,7 @@ pub(crate) enum EffectiveSet<'s> {
 impl<'s> EffectiveSet<'s> {
     ghost use Rattle.asn1_alphabets.specs.EffectiveSets.{name_of, permitted_of, characters_of};
 
-    /// The effective set of a string with a permitted set.
+    /// Returns the effective set of a string with a permitted set.
     pub(crate) fn of(name: CharacterSetName, set: &'s [u32], aligned: bool) -> EffectiveSet<'s>
         requires { length set.now ≤ 2 ^ 32 }
         ensures name { name_of result ≡ name }
@@ -40,7 +40,7 @@ impl<'s> EffectiveSet<'s> {
         }
     }
 
-    /// The string whose alphabet it is.
+    /// Returns the string whose alphabet it is.
     pub(crate) fn name(self) -> CharacterSetName
         ensures { result ≡ name_of self.entry }
     {
@@ -49,7 +49,7 @@ impl<'s> EffectiveSet<'s> {
         }
     }
 
-    /// The number of its characters.
+    /// Returns the number of its characters.
     pub(crate) fn count(self) -> u64
         ensures { result ≡ length (characters_of self.entry) }
     {
@@ -71,7 +71,7 @@ impl<'s> EffectiveSet<'s> {
         }
     }
 
-    /// Whether it is a permitted set that is ascending.
+    /// Returns whether it is a permitted set that is ascending.
     pub(crate) fn is_ascending(self, run: bool) -> bool
         requires { run ≡ true → IsRun (characters_of self) }
         ensures ascends { result ≡ true → IsNonDecreasing (characters_of self.entry) }
@@ -102,7 +102,7 @@ impl<'s> EffectiveSet<'s> {
         }
     }
 
-    /// How it lies in memory.
+    /// Returns how it lies in memory.
     pub(crate) fn layout(self) -> Layout<'s>
         ensures kept { some_if result.kept result.set ≡ permitted_of self.entry }
         ensures layout { result.run ≡ true → result.set.now ≡ characters_of self.entry }

@@ -4,7 +4,7 @@ ghost use Rattle.std.specs.List.Sorted.{IsNonDecreasing};
 ghost use Rattle.asn1_characters.specs.Sets.{largest};
 ghost use Rattle.asn1_alphabets.specs.AlphabetInMemory.{IsRun};
 
-/// The largest character, or 0.
+/// Returns the largest character, or 0.
 pub(crate) fn largest_of(set: &[u32]) -> u32
     ensures { result ≡ largest set.now }
 {
@@ -15,7 +15,7 @@ pub(crate) fn largest_of(set: &[u32]) -> u32
     most
 }
 
-/// The largest character of a contiguous list: its last.
+/// Returns the largest character of a contiguous list: its last.
 pub(crate) fn largest_of_run(set: &[u32]) -> u32
     requires { IsRun set.now }
     ensures { result ≡ largest set.now }
@@ -23,7 +23,7 @@ pub(crate) fn largest_of_run(set: &[u32]) -> u32
     set[set.len() - 1]
 }
 
-/// Whether the list has a character twice. An ascending one is walked once.
+/// Returns whether the list has a character twice. An ascending one is walked once.
 pub(crate) fn repeats_in(set: &[u32], ascending: bool) -> bool
     requires { ascending ≡ true → IsNonDecreasing set.now }
     ensures { MatchBool result (¬ (AllPairs (λ a b. a ≢ b) set.now))
@@ -41,7 +41,7 @@ pub(crate) fn repeats_in(set: &[u32], ascending: bool) -> bool
     false
 }
 
-/// Whether an ascending list has a character twice: then two neighbours are equal.
+/// Returns whether an ascending list has a character twice: then two neighbours are equal.
 fn repeats_in_ascending(set: &[u32]) -> bool
     requires { IsNonDecreasing set.now }
     ensures { MatchBool result (¬ (AllPairs (λ a b. a ≢ b) set.now))
@@ -55,7 +55,7 @@ fn repeats_in_ascending(set: &[u32]) -> bool
     false
 }
 
-/// Whether the list is ascending: no entry is below the one before it.
+/// Returns whether the list is ascending: no entry is below the one before it.
 pub(crate) fn is_ascending(set: &[u32]) -> bool
     ensures ascends { result ≡ true → IsNonDecreasing set.now }
     ensures not_ascending { result ≡ false → ¬ (IsNonDecreasing set.now) }
@@ -68,8 +68,8 @@ pub(crate) fn is_ascending(set: &[u32]) -> bool
     true
 }
 
-/// Whether some characters are contiguous, and below 2^32. No early exit, so that the
-/// loop vectorises.
+/// Returns whether some characters are contiguous, and below 2^32. No early exit, so that the loop
+/// vectorises.
 pub(crate) fn is_run(set: &[u32]) -> bool
     ensures { IsTrue result ↔ IsRun set.now }
 {

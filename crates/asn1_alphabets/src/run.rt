@@ -16,7 +16,7 @@ pub(crate) struct Run {
 }
 
 impl Run {
-    /// A contiguous list. Its first character and its length are read.
+    /// Returns the run of a contiguous list. Its first character and its length are read.
     #[inline(always)]
     pub(crate) fn of(set: &[u32]) -> Run
         requires { IsRun set.now }
@@ -28,8 +28,8 @@ impl Run {
         }
     }
 
-    /// A place of the character: its distance from the first, which is one probe. A character below
-    /// the first wraps to a distance past the last.
+    /// Returns an index of the character: its distance from the first, which is one probe. A
+    /// character below the first wraps to a distance past the last.
     #[inline(always)]
     pub(crate) fn place(self, character: u32, probes: &mut Turns) -> Option<u32>
         ensures place { let set = range_with_len self.first self.count in
@@ -46,7 +46,7 @@ impl Run {
         }
     }
 
-    /// The character at a place.
+    /// Returns the character at an index.
     #[inline(always)]
     pub(crate) fn character(self, place: u32) -> Option<u32>
         ensures { result ≡ slice_get (range_with_len self.first self.count) place }

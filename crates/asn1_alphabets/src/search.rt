@@ -76,8 +76,8 @@ impl<'a> Entries for CountedSlice<'a> {
     }
 }
 
-/// The first place of the character, and None where the list lacks it: entry by entry, each a look
-/// and a probe.
+/// Returns the first index of the character, and `None` if the list lacks it: entry by entry, each
+/// a look and a probe.
 pub(crate) fn find_one_by_one<L: Entries>(
     entries: &mut L,
     character: u32,
@@ -137,8 +137,8 @@ pub fn find_ascending<L: Entries>(
     None
 }
 
-/// A place of the character: by halves where the list is long and ascending, otherwise one by one.
-/// It sees the list through looks alone.
+/// Returns an index of the character: by halves where the list is long and ascending, otherwise one
+/// by one. It sees the list through looks alone.
 #[inline(always)]
 fn place_among<L: Entries>(
     entries: &mut L,
@@ -164,7 +164,7 @@ fn place_among<L: Entries>(
     }
 }
 
-/// A place of the character in a permitted set.
+/// Returns an index of the character in a permitted set.
 #[inline(never)]
 pub(crate) fn place_by_looks(
     set: &[u32],

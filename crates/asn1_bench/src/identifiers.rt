@@ -16,7 +16,7 @@ pub enum Size {
 /// How the contents are written.
 #[derive(Clone, Copy)]
 pub enum Way {
-    /// The crate gives octet by octet, and each is pushed.
+    /// The crate returns octet by octet, and each is pushed.
     Octets,
     /// The crate appends them all by one call.
     Call,

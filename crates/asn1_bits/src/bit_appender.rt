@@ -61,7 +61,7 @@ impl BitBuffer {
 impl<'a> BitAppender<'a> {
     ghost use Rattle.asn1_bits.specs.BitAppender.{bits_written, room, lender_of, words_placed, EndsInZeros};
 
-    /// The number of bits that may still be pushed.
+    /// Returns the number of bits that may still be pushed.
     pub fn room(&self) -> usize
         ensures { result ≡ room self.now }
     {

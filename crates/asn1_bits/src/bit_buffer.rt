@@ -306,7 +306,7 @@ impl BitBuffer {
         BitStr::part_of(self.as_bytes(), 0, len)
     }
 
-    /// A buffer with all bits of the octets, which `from_vec` would drop.
+    /// Returns a buffer with all bits of the octets, which `from_vec` would drop.
     pub(crate) fn of_octets(bytes: Vec<u8>) -> BitBuffer
         requires { 8 * vec_len bytes < 2 ^ 64 }
         ensures { result ≡ bits bytes.items }

@@ -147,7 +147,7 @@ impl<'a> BitStr<'a> {
         (self.slice(0, at), self.slice(at, self.len - at))
     }
 
-    /// The `len` bits of the octets from bit `first` on, which lie within them.
+    /// Returns the `len` bits of the octets from bit `first` on, which lie within them.
     #[inline(always)]
     pub(crate) fn part_of(octets: &'a [u8], first: usize, len: usize) -> BitStr<'a>
         requires { first + len ≤ 8 * length octets.now }

@@ -21,7 +21,7 @@ pub(crate) struct BufferTarget<'a> {
 }
 
 impl<'a> BufferTarget<'a> {
-    /// The buffer as a target, in which no word was placed.
+    /// Returns the buffer as a target, in which no word was placed.
     #[inline(always)]
     pub(crate) fn new(buffer: &'a mut BitBuffer) -> BufferTarget<'a>
         ensures same_reference { result.buffer.ghost_name ≡ buffer.entry.ghost_name }
@@ -34,7 +34,7 @@ impl<'a> BufferTarget<'a> {
         }
     }
 
-    /// The number of bits of the buffer.
+    /// Returns the number of bits of the buffer.
     #[inline(always)]
     pub(crate) fn len(&self) -> usize
         ensures { result ≡ length self.now.buffer.now }

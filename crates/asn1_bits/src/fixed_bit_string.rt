@@ -79,7 +79,7 @@ impl<const N: usize> FixedBitString<N> {
         BitStr::part_of(&self.octets, 0, N)
     }
 
-    /// The bits of a view that has `N`.
+    /// Returns the bits of a view that has `N`.
     fn of_view(src: BitStr<'_>) -> Self
         requires { (view_of src).len ≡ N }
         ensures { fixed_bits N result ≡ bits_of src.entry }

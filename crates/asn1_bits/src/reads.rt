@@ -5,7 +5,7 @@ ghost use Rattle.asn1_bits.specs.Bits.{bits, digits, number};
 
 use crate::single_bits::from_octet;
 
-/// Eight octets from one of them on.
+/// Returns eight octets from one of them on.
 #[inline(always)]
 pub(crate) fn eight(octets: &[u8], first: usize) -> [u8; 8]
     requires { first + 8 ≤ length octets.now }
@@ -21,7 +21,7 @@ pub(crate) fn eight(octets: &[u8], first: usize) -> [u8; 8]
     }
 }
 
-/// The word of the eight octets from one of them on.
+/// Returns the word of the eight octets from one of them on.
 #[inline(always)]
 pub(crate) fn load(octets: &[u8], first: usize) -> u64
     requires { first + 8 ≤ length octets.now }
@@ -30,7 +30,7 @@ pub(crate) fn load(octets: &[u8], first: usize) -> u64
     u64::from_be_bytes(eight(octets, first))
 }
 
-/// The word of the 64 bits from bit `shift` of an octet on.
+/// Returns the word of the 64 bits from bit `shift` of an octet on.
 pub(crate) fn whole_word(octets: &[u8], first: usize, shift: usize) -> u64
     requires shift { shift < 8 }
     requires within { 8 * first + shift + 64 ≤ 8 * length octets.now }
@@ -43,7 +43,7 @@ pub(crate) fn whole_word(octets: &[u8], first: usize, shift: usize) -> u64
     }
 }
 
-/// The 64 digits from digit `shift` on of two words, one after the other.
+/// Returns the 64 digits from digit `shift` on of two words, one after the other.
 #[inline(always)]
 fn digits_from(high: u64, low: u64, shift: usize) -> u64
     requires { shift < 8 }
@@ -55,8 +55,8 @@ fn digits_from(high: u64, low: u64, shift: usize) -> u64
     ((both << (shift % 64)) >> 64) as u64
 }
 
-/// The word of the 64 bits from bit `shift` of the first of nine octets on, with no branch on the
-/// shift.
+/// Returns the word of the 64 bits from bit `shift` of the first of nine octets on, with no branch
+/// on the shift.
 #[inline(always)]
 pub(crate) fn word_of_nine(octets: &[u8], first: usize, shift: usize) -> u64
     requires shift { shift < 8 }
@@ -67,7 +67,7 @@ pub(crate) fn word_of_nine(octets: &[u8], first: usize, shift: usize) -> u64
     digits_from(load(octets, first), ninth, shift)
 }
 
-/// The 128 bits from bit `shift` of the first of seventeen octets on, as a number's digits.
+/// Returns the 128 bits from bit `shift` of the first of seventeen octets on, as a number's digits.
 #[inline(always)]
 pub(crate) fn wide_of_seventeen(octets: &[u8], first: usize, shift: usize) -> u128
     requires shift { shift < 8 }
@@ -79,7 +79,7 @@ pub(crate) fn wide_of_seventeen(octets: &[u8], first: usize, shift: usize) -> u1
     (u128::from(high) << 64) | u128::from(low)
 }
 
-/// The number of `width` bits from bit `shift` of octet `first` on.
+/// Returns the number of `width` bits from bit `shift` of octet `first` on.
 #[inline(always)]
 pub(crate) fn read_word(octets: &[u8], first: usize, shift: usize, width: usize) -> u64
     requires shift { shift < 8 }
@@ -125,9 +125,9 @@ pub(crate) fn read_64(octets: &[u8], first: usize, shift: usize, width: usize) -
     (load(octets, first) << shift) >> ((64 - width) % 64)
 }
 
-/// The number of more than 64 bits, at most 128, from bit `shift` of octet `first` on: read from
-/// seventeen octets at once or, near the end of the octets, from two words. Where `INLINE_NEAR_END` says
-/// that the second is likely, it is inlined.
+/// Returns the number of more than 64 bits, at most 128, from bit `shift` of octet `first` on: read
+/// from seventeen octets at once or, near the end of the octets, from two words. Where
+/// `INLINE_NEAR_END` says that the second is likely, it is inlined.
 #[inline(always)]
 pub(crate) fn read_128<const INLINE_NEAR_END: bool>(
     octets: &[u8],
@@ -203,7 +203,7 @@ fn read_57_near_end(octets: &[u8], first: usize, shift: usize, width: usize) -> 
     read_octets(from_octet(octets, first), shift, width)
 }
 
-/// The number of `width` bits within eight octets, read octet by octet.
+/// Returns the number of `width` bits within eight octets, read octet by octet.
 #[inline(always)]
 fn read_octets(octets: &[u8], shift: usize, width: usize) -> u64
     requires shift { shift < 8 }

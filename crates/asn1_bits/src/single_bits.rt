@@ -4,7 +4,7 @@ ghost use Rattle.std.specs.Prelude.{◌≡◌, ◌+◌, ◌*◌, ◌<◌, ◌≤
 ghost use Rattle.std.specs.Int.{div_ceil};
 ghost use Rattle.asn1_bits.specs.Bits.{bits};
 
-/// Bit `i` of those from bit `shift` of an octet on.
+/// Returns bit `i` of those from bit `shift` of an octet on.
 pub(crate) fn bit_from(octets: &[u8], octet: usize, shift: usize, i: usize) -> bool
     requires shift { shift < 8 }
     requires within { 8 * octet + shift + i < 8 * length octets.now }
@@ -14,7 +14,7 @@ pub(crate) fn bit_from(octets: &[u8], octet: usize, shift: usize, i: usize) -> b
     (octets[octet + i / 8 + low / 8] >> (7 - low % 8)) & 1 == 1
 }
 
-/// The octets from one of them on.
+/// Returns the octets from one of them on.
 pub(crate) fn from_octet(octets: &[u8], at: usize) -> &[u8]
     requires { at ≤ length octets.now }
     ensures { result.now ≡ drop at octets.now }

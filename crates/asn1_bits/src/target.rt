@@ -33,7 +33,7 @@ pub(crate) struct BegunWord {
 }
 
 impl<'a> Target<'a> {
-    /// The octets as a target, in which no word was placed.
+    /// Returns the octets as a target, in which no word was placed.
     #[inline(always)]
     pub(crate) fn new(octets: &'a mut [u8]) -> Target<'a>
         ensures same_reference { result.octets.ghost_name ≡ octets.entry.ghost_name }
@@ -143,7 +143,7 @@ impl<'a> Target<'a> {
         or_front(self.octets, octet, word, width);
     }
 
-    /// How many octets there are.
+    /// Returns how many octets there are.
     #[inline(always)]
     pub(crate) fn octet_count(&self) -> usize
         ensures { result ≡ length self.now.octets.now }

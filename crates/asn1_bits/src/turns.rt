@@ -49,7 +49,7 @@ impl Turns {
         *self = Turns::counting();
     }
 
-    /// A counter whose ghost count is the ghost argument `number`.
+    /// Returns a counter whose ghost count is the ghost argument `number`.
     fn counting() -> Turns
         ghost number: { ℕ }
         ensures { result.count ≡ number }

@@ -8,7 +8,7 @@ use crate::reads::load;
 use crate::target::Target;
 use crate::turns::Turns;
 
-/// The number of the lowest `width` digits of the word.
+/// Returns the number of the lowest `width` digits of the word.
 #[inline(always)]
 pub(crate) fn lowest(word: u64, width: usize) -> u64
     requires { width ≤ 64 }
@@ -22,7 +22,7 @@ pub(crate) fn lowest(word: u64, width: usize) -> u64
     }
 }
 
-/// The number of the lowest `width` digits of a number of up to 128.
+/// Returns the number of the lowest `width` digits of a number of up to 128.
 #[inline(always)]
 pub(crate) fn lowest_wide(value: u128, width: usize) -> u128
     requires { width ≤ 128 }

@@ -28,7 +28,7 @@ pub struct Alphabet<'s> {
 }
 
 impl<'s> Alphabet<'s> {
-    /// The alphabet as the layer below has it, if the struct names one.
+    /// Returns the alphabet as the layer below has it, if the struct names one.
     pub(crate) fn read(&self) -> Option<CharacterAlphabet<'s>>
         ensures { MatchOption result (alphabet_in self.now ≡ None)
             (λ a. alphabet_in self.now ≡ Some (alphabet_of a)) }
@@ -46,7 +46,7 @@ impl<'s> Alphabet<'s> {
     }
 }
 
-/// The alphabet of a string with a permitted set, if there is one.
+/// Returns the alphabet of a string with a permitted set, if there is one.
 fn alphabet_for<'s>(
     name: CharacterSetName,
     permitted: Option<&'s [u32]>,

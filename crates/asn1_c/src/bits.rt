@@ -19,7 +19,7 @@ pub struct Words {
 }
 
 impl Words {
-    /// The words of a number.
+    /// Returns the words of a number.
     pub(crate) fn of(number: u128) -> Words
         ensures { result.high * 2 ^ 64 + result.low ≡ number }
     {
@@ -29,7 +29,7 @@ impl Words {
         }
     }
 
-    /// The number.
+    /// Returns the number.
     pub(crate) fn number(&self) -> u128
         ensures { result ≡ self.now.high * 2 ^ 64 + self.now.low }
     {
@@ -37,8 +37,8 @@ impl Words {
     }
 }
 
-/// Whether so many bits from a place on lie in so many octets. Octets are compared, since bits may
-/// pass `usize`.
+/// Returns whether so many bits from an index on are in so many octets. Octets are compared, since
+/// bits may exceed `usize`.
 #[inline(always)]
 fn lie_within(place: usize, count: usize, octets: usize) -> bool
     ensures { IsTrue result ↔ (place + count ≤ 8 * octets) }
@@ -164,7 +164,7 @@ pub extern "C" fn asn1v_or_number(
     DONE
 }
 
-/// Whether the number is below 2 to the power of the width.
+/// Returns whether the number is below 2 to the power of the width.
 pub(crate) fn fits_width(number: u128, width: usize) -> bool
     requires { width ≤ 128 }
     ensures { IsTrue result ↔ (number < 2 ^ width) }

@@ -104,7 +104,7 @@ pub const TAG_LARGE: u32 = 31;
 /// The contents octets encode no value of the type.
 pub const CONTENTS: u32 = 32;
 
-/// Below, equal and above, as -1, 0 and 1.
+/// Returns below, equal and above as -1, 0 and 1.
 pub(crate) fn number_of_order(order: Ordering) -> i32
     ensures { result ≡ order_number order }
 {

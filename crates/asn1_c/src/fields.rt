@@ -58,7 +58,7 @@ pub struct Refusal {
 }
 
 impl Refusal {
-    /// An error with a number.
+    /// Returns an error with a number.
     pub(crate) fn with(code: u32, field: usize, number: u128) -> Refusal
         ensures code { result.code ≡ code }
         ensures field { result.field ≡ field }
@@ -73,7 +73,7 @@ impl Refusal {
     }
 }
 
-/// A field of so many bits from a place on, without a number, if the octets have them.
+/// Returns a field of so many bits from an index on, without a number, if the octets have them.
 pub(crate) fn field_at(octets: &[u8], at: usize, need: u128, field: usize) -> Result<Field, Refusal>
     requires few { 8 * length octets.now < 2 ^ 64 }
     requires within { at ≤ 8 * length octets.now }
@@ -99,14 +99,14 @@ pub(crate) fn field_at(octets: &[u8], at: usize, need: u128, field: usize) -> Re
 }
 
 impl Field {
-    /// The number.
+    /// Returns the number.
     pub(crate) fn number(&self) -> u128
         ensures { result ≡ number_of_words self.now.high self.now.low }
     {
         u128::from(self.high) * (1 << 64) + u128::from(self.low)
     }
 
-    /// The field with another number.
+    /// Returns the field with another number.
     pub(crate) fn with_number(&self, number: u128) -> Field
         ensures place { (result.first ≡ self.now.first) × (result.length ≡ self.now.length) }
         ensures number { number_of_words result.high result.low ≡ number }
@@ -161,7 +161,7 @@ fn read_bits(octets: &[u8], at: usize, count: usize, field: usize) -> Result<Fie
     field_at(octets, at, count as u128, field)
 }
 
-/// The shape that the numbers name.
+/// Returns the shape that the numbers name.
 pub(crate) fn known_shape<'s>(alphabets: &[Alphabet<'s>], shape: &Shape) -> Option<Known<'s>>
     ensures { MatchOption result (shape_named alphabets.now shape.now ≡ None)
         (λ s. shape_named alphabets.now shape.now ≡ Some (plain_shape s)) }
@@ -184,7 +184,7 @@ pub(crate) fn known_shape<'s>(alphabets: &[Alphabet<'s>], shape: &Shape) -> Opti
     }
 }
 
-/// The shape of a character of the alphabet at a place.
+/// Returns the shape of a character of the alphabet at an index.
 fn character_shape<'s>(alphabets: &[Alphabet<'s>], place: usize) -> Option<Known<'s>>
     ensures { MatchOption result (alphabet_at alphabets.now place ≡ None)
         (λ s. option_map (λ a. plain.OfCharacter a) (alphabet_at alphabets.now place)

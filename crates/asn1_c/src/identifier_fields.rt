@@ -12,8 +12,8 @@ use crate::fields::{Field, Refusal, field_at};
 use crate::identifiers::code_of_contents;
 use crate::octets_at::OctetsAt;
 
-/// Whether so many octets from a bit on are the contents of an identifier whose arcs all fit 32
-/// bits.
+/// Returns whether so many octets from a bit on are the contents of an identifier whose arcs all
+/// fit 32 bits.
 pub(crate) fn code_at(octets: &[u8], at: usize, count: usize) -> u32
     requires few { 8 * length octets.now < 2 ^ 64 }
     requires within { at + 8 * count ≤ 8 * length octets.now }

@@ -130,7 +130,7 @@ pub extern "C" fn asn1v_oid_arcs(octets: &[u8], room: &mut [u32], count: &mut us
     }
 }
 
-/// How many arcs contents have.
+/// Returns how many arcs contents have.
 fn count_arcs(octets: &[u8]) -> usize
     ensures counted { (arcs : List ℕ) → contents_reading octets.now ≡ Ok arcs
         → result ≡ length arcs }
@@ -145,7 +145,7 @@ fn count_arcs(octets: &[u8]) -> usize
     count
 }
 
-/// How many arcs there are with one number more: the first two arcs have one number.
+/// Returns how many arcs there are with one number more: the first two arcs have one number.
 fn next_count(count: usize) -> usize
     requires { count < 2 ^ 64 - 1 }
     ensures first { count ≡ 0 → result ≡ 2 }

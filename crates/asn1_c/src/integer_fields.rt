@@ -14,8 +14,8 @@ use crate::fields::{Field, Refusal, field_at};
 use crate::octets_at::octet_at;
 use asn1_values::{IntegerType, read_wide, signed_value};
 
-/// Whether octets from a bit on are the shortest of a number: the first nine bits are not all alike
-/// (X.690 8.3.2), or there is one octet.
+/// Returns whether octets from a bit on are the shortest of a number: the first nine bits are not
+/// all alike (X.690 8.3.2), or there is one octet.
 fn are_shortest(octets: &[u8], at: usize, count: usize) -> bool
     requires few { 8 * length octets.now < 2 ^ 64 }
     requires some { 0 < count }
@@ -29,14 +29,14 @@ fn are_shortest(octets: &[u8], at: usize, count: usize) -> bool
     !repeats_sign(octet_at(octets, at), octet_at(octets, at + 8))
 }
 
-/// Whether an octet only repeats the sign of the next.
+/// Returns whether an octet only repeats the sign of the next.
 fn repeats_sign(first: u8, second: u8) -> bool
     ensures { IsTrue result ↔ RepeatsSign first second }
 {
     (first == 0 && second < 128) || (first == 255 && second >= 128)
 }
 
-/// The number of one to sixteen octets from a bit on, in two's complement.
+/// Returns the number of one to sixteen octets from a bit on, in two's complement.
 fn value_at(octets: &[u8], at: usize, count: usize) -> i128
     requires some { 0 < count }
     requires few { count ≤ 16 }
@@ -47,7 +47,7 @@ fn value_at(octets: &[u8], at: usize, count: usize) -> i128
     signed_value(&word[16 - count..])
 }
 
-/// The field with the number of its octets, where they are at most sixteen.
+/// Returns the field with the number of its octets, where they are at most sixteen.
 fn with_value(place: &Field, octets: &[u8], at: usize, count: usize) -> Field
     requires some { 0 < count }
     requires within { at + 8 * count ≤ 8 * length octets.now }
@@ -120,8 +120,8 @@ pub(crate) fn read_counted(octets: &[u8], at: usize, field: usize) -> Result<Fie
     }
 }
 
-/// The number of the shortest octets of a word in two's complement, read without a sign, and how
-/// many they are.
+/// Returns the number of the shortest octets of a word in two's complement, read without a sign,
+/// and how many they are.
 pub(crate) fn shortest_word(word: u128) -> (u128, usize)
     ensures word { (o : List ℕ) → IsShortest (cast_signed w128 word) o
         → digits result.0 (8 * result.1) ≡ bits o }

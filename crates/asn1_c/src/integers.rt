@@ -72,7 +72,7 @@ pub extern "C" fn asn1v_integer_compare(a: &[u8], b: &[u8], order: &mut i32) -> 
     DONE
 }
 
-/// The order of two numbers by their octets.
+/// Returns the order of two numbers by their octets.
 fn order_of(a: &[u8], b: &[u8]) -> Ordering
     requires a_some { 0 < length a.now }
     requires b_some { 0 < length b.now }
@@ -84,7 +84,8 @@ fn order_of(a: &[u8], b: &[u8]) -> Ordering
     )
 }
 
-/// The order of two numbers by their shortest octets: by sign, then by length, then octet by octet.
+/// Returns the order of two numbers by their shortest octets: by sign, then by length, then octet
+/// by octet.
 fn order_of_shortest(a: &[u8], b: &[u8]) -> Ordering
     requires a_some { 0 < length a.now }
     requires b_some { 0 < length b.now }

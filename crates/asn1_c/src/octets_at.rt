@@ -18,7 +18,7 @@ pub(crate) struct OctetsAt<'a> {
 }
 
 impl<'a> OctetsAt<'a> {
-    /// So many octets from a bit on.
+    /// Returns so many octets from a bit on.
     pub(crate) fn new(octets: &'a [u8], first: usize, count: usize) -> OctetsAt<'a>
         requires few { 8 * length octets.now < 2 ^ 64 }
         requires within { first + 8 * count ≤ 8 * length octets.now }
@@ -84,7 +84,7 @@ fn copy_each(octets: &[u8], first: usize, count: usize, room: &mut [u8])
     }
 }
 
-/// The octet from a bit on.
+/// Returns the octet from a bit on.
 pub(crate) fn octet_at(octets: &[u8], at: usize) -> u8
     requires { at + 8 ≤ 8 * length octets.now }
     ensures { result ≡ number (take 8 (drop at (bits octets.now))) }

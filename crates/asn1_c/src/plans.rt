@@ -61,7 +61,7 @@ impl Plan {
         }
     }
 
-    /// How many bits are written.
+    /// Returns how many bits are written.
     pub(crate) fn len(&self) -> u128
         ensures { result ≡ self.now.lead + self.now.width + self.now.length }
     {
@@ -95,7 +95,7 @@ impl Plan {
     }
 }
 
-/// The plan of a field of the shape, if there is one.
+/// Returns the plan of a field of the shape, if there is one.
 pub(crate) fn plan_of(
     source: &[u8],
     shape: &Known<'_>,
@@ -120,7 +120,7 @@ pub(crate) fn plan_of(
     }
 }
 
-/// The plan of a number.
+/// Returns the plan of a number.
 fn plan_number(field: &Field, width: usize, place: usize) -> Result<Plan, Refusal>
     ensures sound { (source : List ℕ) → IfOk result (IsSound source) }
     ensures named { (source : List ℕ) → IfOk result (λ p. IsNamedAs source (plain.OfNumber width)
@@ -139,7 +139,7 @@ fn plan_number(field: &Field, width: usize, place: usize) -> Result<Plan, Refusa
     Ok(Plan::of_number(number, width))
 }
 
-/// The plan of bits of the source, if they are as many as are needed, and lie there.
+/// Returns the plan of bits of the source, if they are as many as are needed, and are there.
 fn plan_placed(source: &[u8], field: &Field, need: u128, place: usize) -> Result<Plan, Refusal>
     ensures bits { IfOk result (λ p. (p.first ≡ field.now.first) × (p.length ≡ field.now.length)
         × (p.lead ≡ 0) × (p.width ≡ 0)) }
@@ -157,7 +157,7 @@ fn plan_placed(source: &[u8], field: &Field, need: u128, place: usize) -> Result
     Ok(Plan::of_bits(field.first, field.length))
 }
 
-/// The plan of octets.
+/// Returns the plan of octets.
 fn plan_octets(source: &[u8], field: &Field, count: usize, place: usize) -> Result<Plan, Refusal>
     ensures sound { IfOk result (IsSound source.now) }
     ensures named { IfOk result (λ p. IsNamedAs source.now (plain.OfOctets count) field.now
@@ -168,7 +168,7 @@ fn plan_octets(source: &[u8], field: &Field, count: usize, place: usize) -> Resu
     plan_placed(source, field, 8 * (count as u128), place)
 }
 
-/// The plan of bits.
+/// Returns the plan of bits.
 fn plan_bits(source: &[u8], field: &Field, count: usize, place: usize) -> Result<Plan, Refusal>
     ensures sound { IfOk result (IsSound source.now) }
     ensures named { IfOk result (λ p. IsNamedAs source.now (plain.OfBits count) field.now
@@ -179,8 +179,8 @@ fn plan_bits(source: &[u8], field: &Field, count: usize, place: usize) -> Result
     plan_placed(source, field, count as u128, place)
 }
 
-/// The plan of an integer: of its number where its length says at most sixteen octets, otherwise of the
-/// bits of the source.
+/// Returns the plan of an integer: of its number where its length says at most sixteen octets,
+/// otherwise of the bits of the source.
 fn plan_integer(source: &[u8], field: &Field, count: usize, place: usize) -> Result<Plan, Refusal>
     requires few { 8 * length source.now < 2 ^ 64 }
     ensures sound { IfOk result (IsSound source.now) }
@@ -205,7 +205,7 @@ fn plan_integer(source: &[u8], field: &Field, count: usize, place: usize) -> Res
     }
 }
 
-/// The plan of an integer after the octet that counts its octets.
+/// Returns the plan of an integer after the octet that counts its octets.
 fn plan_counted(source: &[u8], field: &Field, place: usize) -> Result<Plan, Refusal>
     requires few { 8 * length source.now < 2 ^ 64 }
     ensures sound { IfOk result (IsSound source.now) }
@@ -236,7 +236,7 @@ fn plan_counted(source: &[u8], field: &Field, place: usize) -> Result<Plan, Refu
     }
 }
 
-/// The plan of a character.
+/// Returns the plan of a character.
 fn plan_character(
     field: &Field,
     alphabet: &CharacterAlphabet<'_>,
@@ -259,7 +259,7 @@ fn plan_character(
     }
 }
 
-/// The plan of an identifier.
+/// Returns the plan of an identifier.
 fn plan_identifier(
     source: &[u8],
     field: &Field,

@@ -107,7 +107,7 @@ pub extern "C" fn asn1v_string_to_utf8(
     DONE
 }
 
-/// Why a character is not encoded in UTF-8.
+/// Returns why a character is not encoded in UTF-8.
 fn code_of_unspelled(name: CharacterSetName, character: u32) -> u32
     requires { ¬ (IsSpellable name character) }
     ensures character { result ≡ 12 → has_character (base_set name) character ≡ false }
@@ -121,7 +121,7 @@ fn code_of_unspelled(name: CharacterSetName, character: u32) -> u32
     }
 }
 
-/// How many octets a character has.
+/// Returns how many octets a character has.
 pub(crate) fn size_of_character(name: CharacterSetName) -> usize
     ensures size { result ≡ character_octets name }
     ensures some { 0 < result }
@@ -132,7 +132,7 @@ pub(crate) fn size_of_character(name: CharacterSetName) -> usize
     }
 }
 
-/// Whether the characters of the string are those of Unicode.
+/// Returns whether the characters of the string are those of Unicode.
 pub(crate) fn is_of_unicode(name: CharacterSetName) -> bool
     ensures { result ≡ is_unicode name }
 {
@@ -142,7 +142,7 @@ pub(crate) fn is_of_unicode(name: CharacterSetName) -> bool
     }
 }
 
-/// The character at a place.
+/// Returns the character at an index.
 fn character_of(name: CharacterSetName, octets: &[u8], i: usize) -> u32
     requires { i < character_count name octets.now }
     ensures character { result ≡ character_at name octets.now i }
@@ -154,14 +154,14 @@ fn character_of(name: CharacterSetName, octets: &[u8], i: usize) -> u32
     }
 }
 
-/// Whether the set has the character, and UTF-8 has octets for it.
+/// Returns whether the set has the character, and UTF-8 has octets for it.
 fn is_spellable(name: CharacterSetName, character: u32) -> bool
     ensures { IsTrue result ↔ IsSpellable name character }
 {
     name.contains(character) && char::from_u32(character).is_some()
 }
 
-/// The index of the first character that is not encoded in UTF-8.
+/// Returns the index of the first character that is not encoded in UTF-8.
 fn first_unspelled(name: CharacterSetName, octets: &[u8]) -> Option<usize>
     ensures wrong { IfSome result (λ i. (i < character_count name octets.now)
         × ¬ (IsSpellable name (character_at name octets.now i))) }
@@ -178,7 +178,7 @@ fn first_unspelled(name: CharacterSetName, octets: &[u8]) -> Option<usize>
     None
 }
 
-/// The character at a place, as one of Unicode.
+/// Returns the character at an index, as one of Unicode.
 fn char_of(name: CharacterSetName, octets: &[u8], i: usize) -> char
     requires place { i < character_count name octets.now }
     requires scalar { IsScalar (character_at name octets.now i) }
@@ -191,7 +191,7 @@ fn char_of(name: CharacterSetName, octets: &[u8], i: usize) -> char
     }
 }
 
-/// How many octets the characters have in UTF-8.
+/// Returns how many octets the characters have in UTF-8.
 fn utf8_length(name: CharacterSetName, octets: &[u8]) -> u128
     requires { (j : ℕ) → j < character_count name octets.now
         → IsSpellable name (character_at name octets.now j) }

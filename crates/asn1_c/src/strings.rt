@@ -10,7 +10,7 @@ ghost use Rattle.asn1_c.specs.Sets.{set_named, character_count, character_at};
 use crate::codes::{CHARACTER, DONE, KIND, ODD};
 use asn1_values::CharacterSetName;
 
-/// The set of a number: 0 to 7 for BMPString, GeneralString, GraphicString, IA5String,
+/// Returns the set of a number: 0 to 7 for BMPString, GeneralString, GraphicString, IA5String,
 /// NumericString, PrintableString, TeletexString and VisibleString.
 pub(crate) fn set_of_kind(kind: u32) -> Option<CharacterSetName>
     ensures { result ≡ set_named kind }
@@ -28,7 +28,7 @@ pub(crate) fn set_of_kind(kind: u32) -> Option<CharacterSetName>
     }
 }
 
-/// The place of the first octet that is no character of the set.
+/// Returns the index of the first octet that is no character of the set.
 fn first_wrong_octet(name: CharacterSetName, octets: &[u8]) -> Option<usize>
     ensures wrong { IfSome result (λ i. (i < length octets.now)
         × (has_character (base_set name) (slice_index octets.now i) ≡ false)) }
@@ -45,7 +45,8 @@ fn first_wrong_octet(name: CharacterSetName, octets: &[u8]) -> Option<usize>
     None
 }
 
-/// The place of the first pair of octets that is no character of `BmpString`, counted in pairs.
+/// Returns the index of the first pair of octets that is no character of `BmpString`, counted in
+/// pairs.
 fn first_wrong_pair(octets: &[u8]) -> Option<usize>
     ensures wrong { IfSome result (λ i. (2 * i + 1 < length octets.now)
         × (has_character (base_set Bmp) (character_at Bmp octets.now i) ≡ false)) }
@@ -62,7 +63,7 @@ fn first_wrong_pair(octets: &[u8]) -> Option<usize>
     None
 }
 
-/// The number of a pair of octets.
+/// Returns the number of a pair of octets.
 pub(crate) fn pair_at(octets: &[u8], i: usize) -> u32
     requires { 2 * i + 1 < length octets.now }
     ensures { result ≡ character_at Bmp octets.now i }

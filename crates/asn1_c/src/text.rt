@@ -18,7 +18,7 @@ struct Decimal {
 }
 
 impl Decimal {
-    /// A number's.
+    /// Returns the decimal of a number.
     fn of(number: u32) -> Decimal
         ensures text { drop result.first result.octets ≡ full_stop ∷ decimal number }
         ensures digits { drop (result.first + 1) result.octets ≡ decimal number }
@@ -40,7 +40,7 @@ impl Decimal {
         unreachable!()
     }
 
-    /// The full stop and the digits.
+    /// Returns the full stop and the digits.
     fn with_stop(&self) -> &[u8]
         requires { self.now.first < 10 }
         ensures { result.now ≡ drop self.now.first self.now.octets }
@@ -48,7 +48,7 @@ impl Decimal {
         &self.octets[self.first..]
     }
 
-    /// The digits.
+    /// Returns the digits.
     fn digits(&self) -> &[u8]
         requires { self.now.first < 10 }
         ensures { result.now ≡ drop (self.now.first + 1) self.now.octets }
@@ -92,7 +92,7 @@ pub extern "C" fn asn1v_oid_text(arcs: &[u32], room: &mut [u8], count: &mut usiz
     DONE
 }
 
-/// How many octets the dotted text has.
+/// Returns how many octets the dotted text has.
 fn text_length(first: u32, others: &[u32]) -> u128
     ensures length { result ≡ length (dotted (first ∷ others.now)) }
     ensures most { result ≤ 11 * (length others.now + 1) }
@@ -158,7 +158,7 @@ pub extern "C" fn asn1v_oid_from_text(text: &[u8], room: &mut [u32], count: &mut
     }
 }
 
-/// Whether the arcs are those of an identifier.
+/// Returns whether the arcs are those of an identifier.
 fn are_valid(arcs: &[u32]) -> bool
     ensures { IsTrue result ↔ IsValidArcs arcs.now }
 {

@@ -93,7 +93,7 @@ pub extern "C" fn asn1v_string_from_utf8(
     DONE
 }
 
-/// How many characters a text has.
+/// Returns how many characters a text has.
 fn count_of(text: &str) -> usize
     ensures count { result ≡ length (chars text.now) }
     ensures most { result ≤ length text.now }
@@ -101,7 +101,7 @@ fn count_of(text: &str) -> usize
     text.chars().count()
 }
 
-/// The first character of the text that is not in the set, and its place.
+/// Returns the first character of the text that is not in the set, and its index.
 fn first_outside(name: CharacterSetName, text: &str) -> Option<(usize, u32)>
     ensures wrong { IfSome result (λ r. (r.0 < length (chars text.now))
         × (r.1 ≡ slice_index (chars text.now) r.0) × (has_character (base_set name) r.1 ≡ false)) }

@@ -176,7 +176,7 @@ pub extern "C" fn asn1v_integer_to_u128(octets: &[u8], number: &mut Words) -> u3
     }
 }
 
-/// The number of 128 bits without a sign that shortest octets encode.
+/// Returns the number of 128 bits without a sign that shortest octets encode.
 pub(crate) fn u128_of(octets: &[u8]) -> Option<u128>
     requires { IsShortest (signed octets.now) octets.now }
     ensures { MatchOption result (¬ (IsInRange kind_u128 (signed octets.now)))

@@ -70,7 +70,7 @@ pub extern "C" fn asn1v_write_fields(
     }
 }
 
-/// How many bits the fields have, or the first wrong one.
+/// Returns how many bits the fields have, or the first that does not fit.
 fn length_of(
     source: &[u8],
     alphabets: &[Alphabet<'_>],
@@ -97,7 +97,7 @@ fn length_of(
     Ok(total)
 }
 
-/// The plan of a field of the shape that the numbers name.
+/// Returns the plan of a field of the shape that the numbers name.
 fn plan_one(
     source: &[u8],
     alphabets: &[Alphabet<'_>],

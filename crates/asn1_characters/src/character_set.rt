@@ -227,7 +227,7 @@ impl CharacterSetName {
         }
     }
 
-    /// The character at a place, by the ranges one after another.
+    /// Returns the character at an index, by the ranges one after another.
     #[inline(never)]
     fn character_in_ranges(self, place: u32) -> Option<u32>
         ensures { result ≡ slice_get (base_set self) place }
@@ -243,7 +243,7 @@ impl CharacterSetName {
         None
     }
 
-    /// The place of a character, by the ranges one after another.
+    /// Returns the index of a character, by the ranges one after another.
     #[inline(never)]
     fn place_in_ranges(self, character: u32) -> Option<u32>
         ensures { MatchOption result (has_character (base_set self) character ≡ false)

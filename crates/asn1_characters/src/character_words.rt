@@ -47,7 +47,7 @@ impl CharacterWords {
         words
     }
 
-    /// These words with the bit of one more character.
+    /// Returns these words with the bit of one more character.
     fn with(self, character: u32) -> CharacterWords
         requires { character < 256 }
         ensures { (c : ℕ) → c < 256 →

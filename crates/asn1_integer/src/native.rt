@@ -34,26 +34,26 @@ pub trait Native: Copy {
     /// The number of a pair.
     ghost pair_value: { Self.UnsignedPair → ℤ };
 
-    /// The number's bits, as those of a number of 128 bits of the same value.
+    /// Returns the number's bits, as those of a number of 128 bits of the same value.
     fn low_bits(self) -> u128
         ensures bits { result ≡ cast_unsigned w128 (value self) }
         ensures in_range { IsInRange (native_kind IS_SIGNED BYTE_WIDTH) (value self) };
 
-    /// The bits of a pair.
+    /// Returns the bits of a pair.
     fn low_bits_of_pair(pair: Self::UnsignedPair) -> u128
         ensures { pos result ≡ pair_value pair };
 
-    /// The number that the type has at the low bits.
+    /// Returns the number that the type has at the low bits.
     fn from_low_bits(bits: u128) -> Self
         ensures { value result ≡ wrapped_bits IS_SIGNED BYTE_WIDTH bits };
 
-    /// The sum, where the type holds it.
+    /// Returns the sum, if the type holds it.
     fn sum(self, other: Self) -> Option<Self>
         ensures { let n = value self +ℤ value other in
             let kind = native_kind IS_SIGNED BYTE_WIDTH in
             MatchOption result (¬ (IsInRange kind n)) (λ x. (value x ≡ n) × IsInRange kind n) };
 
-    /// The difference, where the type holds it.
+    /// Returns the difference, if the type holds it.
     fn difference(self, other: Self) -> Option<Self>
         ensures { let n = value self -ℤ value other in
             let kind = native_kind IS_SIGNED BYTE_WIDTH in

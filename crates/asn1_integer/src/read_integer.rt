@@ -58,7 +58,7 @@ fn read_long(alloc: Global, reader: &BitReader<'_>) -> Result<Integer, AllocErro
     Ok(number)
 }
 
-/// The two's complement value of a word's lowest `width` bits, where it has no others.
+/// Returns the two's complement value of a word's lowest `width` bits, which has no others.
 #[inline(always)]
 fn integer_from_word(word: u128, width: usize) -> Integer
     requires some { 0 < width }
@@ -73,7 +73,7 @@ fn integer_from_word(word: u128, width: usize) -> Integer
     Integer::from(sign_extended(word, width))
 }
 
-/// The number of `integer_from_word`, of more than 64 digits.
+/// Returns the number of `integer_from_word`, of more than 64 digits.
 #[inline(always)]
 fn sign_extended(word: u128, width: usize) -> i128
     requires many { 64 < width }
@@ -90,7 +90,7 @@ fn sign_extended(word: u128, width: usize) -> i128
     }
 }
 
-/// Half of 2 to the power `width`, made of one word, since it lies in the upper one.
+/// Returns half of 2 to the power `width`, made of one word, since it lies in the upper one.
 #[inline(always)]
 fn half_of(width: usize) -> u128
     requires many { 64 < width }
@@ -100,7 +100,7 @@ fn half_of(width: usize) -> u128
     u128::from(1u64 << (width - 65)) << 64
 }
 
-/// The number of `integer_from_word`, of at most 64 digits.
+/// Returns the number of `integer_from_word`, of at most 64 digits.
 #[inline(always)]
 fn sign_extended_short(word: u64, width: usize) -> i64
     requires some { 0 < width }

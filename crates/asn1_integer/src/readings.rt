@@ -12,7 +12,7 @@ use asn1_number::{
     without_redundant_sign_octets,
 };
 
-/// The bits of the number that a native type reads from two's complement octets.
+/// Returns the bits of the number that a native type reads from two's complement octets.
 pub(crate) fn read_with_sign(
     octets: &[u8],
     size: usize,
@@ -29,7 +29,7 @@ pub(crate) fn read_with_sign(
     }
 }
 
-/// The bits of the number that a native type reads from octets in its own form.
+/// Returns the bits of the number that a native type reads from octets in its own form.
 pub(crate) fn read_own(octets: &[u8], size: usize, is_signed: bool) -> Result<u128, IntegerError>
     requires { IsNativeSize size }
     ensures { let kind = native_kind is_signed size in
@@ -42,7 +42,7 @@ pub(crate) fn read_own(octets: &[u8], size: usize, is_signed: bool) -> Result<u1
     }
 }
 
-/// The bits of the number that a native type reads from octets without a sign.
+/// Returns the bits of the number that a native type reads from octets without a sign.
 pub(crate) fn read_without_sign(
     octets: &[u8],
     size: usize,
@@ -71,7 +71,7 @@ pub(crate) fn read_without_sign(
     Ok(bits)
 }
 
-/// The bits of the number that a signed type reads from two's complement octets.
+/// Returns the bits of the number that a signed type reads from two's complement octets.
 fn read_signed_type(octets: &[u8], size: usize) -> Result<u128, IntegerError>
     requires { IsNativeSize size }
     ensures { ReadsBits (SignedOf size) result (signed_reading (SignedOf size) octets.now) }
@@ -86,7 +86,7 @@ fn read_signed_type(octets: &[u8], size: usize) -> Result<u128, IntegerError>
     Ok(signed_value(octets).cast_unsigned())
 }
 
-/// The bits of the number that an unsigned type reads from two's complement octets.
+/// Returns the bits of the number that an unsigned type reads from two's complement octets.
 fn read_unsigned_type(octets: &[u8], size: usize) -> Result<u128, IntegerError>
     requires { IsNativeSize size }
     ensures { ReadsBits (UnsignedOf size) result (signed_reading (UnsignedOf size) octets.now) }
@@ -106,7 +106,7 @@ fn read_unsigned_type(octets: &[u8], size: usize) -> Result<u128, IntegerError>
     Ok(unsigned_value(number))
 }
 
-/// The octets after one first zero octet, which adds nothing to the value.
+/// Returns the octets after one first zero octet, which adds nothing to the value.
 fn without_zero_first(octets: &[u8]) -> &[u8]
     ensures counted { length result.now ≡ counted_length octets.now }
     ensures value { unsigned result.now ≡ unsigned octets.now }
@@ -117,7 +117,7 @@ fn without_zero_first(octets: &[u8]) -> &[u8]
     }
 }
 
-/// The shortest two's complement octets of the number of a native type that has these bits.
+/// Returns the shortest two's complement octets of the number of a native type that has these bits.
 pub(crate) fn signed_octets_of<'a>(bits: u128, is_signed: bool) -> IntegerBytes<'a>
     ensures { (n : ℤ) → AreBitsOf is_signed n bits → IsShortest n result }
 {
@@ -127,8 +127,8 @@ pub(crate) fn signed_octets_of<'a>(bits: u128, is_signed: bool) -> IntegerBytes<
     }
 }
 
-/// The shortest two's complement octets of a number above `i128`'s: a zero octet and the sixteen of
-/// its bits.
+/// Returns the shortest two's complement octets of a number above `i128`'s: a zero octet and the
+/// sixteen of its bits.
 #[inline(never)]
 fn octets_behind_zero<'a>(bits: u128) -> IntegerBytes<'a>
     requires { 2 ^ 127 ≤ bits }
@@ -139,7 +139,7 @@ fn octets_behind_zero<'a>(bits: u128) -> IntegerBytes<'a>
     IntegerBytes::from_octets(&octets)
 }
 
-/// The shortest octets without a sign of the bits of so many low octets.
+/// Returns the shortest octets without a sign of the bits of so many low octets.
 pub(crate) fn unsigned_octets_of<'a>(bits: u128, size: usize) -> IntegerBytes<'a>
     requires { IsNativeSize size }
     ensures { IsShortestUnsigned (bits % 2 ^ (8 * size)) result }
@@ -147,7 +147,7 @@ pub(crate) fn unsigned_octets_of<'a>(bits: u128, size: usize) -> IntegerBytes<'a
     signed_octets_of(low_octets(bits, size), false).without_sign()
 }
 
-/// The bits of so many low octets.
+/// Returns the bits of so many low octets.
 fn low_octets(bits: u128, size: usize) -> u128
     requires { IsNativeSize size }
     ensures { result ≡ bits % 2 ^ (8 * size) }
@@ -158,14 +158,14 @@ fn low_octets(bits: u128, size: usize) -> u128
     bits % (1 << (8 * size as u32))
 }
 
-/// Whether the number of a native type that has these bits is negative.
+/// Returns whether the number of a native type that has these bits is negative.
 pub(crate) fn is_below_zero(bits: u128, is_signed: bool) -> bool
     ensures { result ≡ (is_signed && nat_le (2 ^ 127) bits) }
 {
     is_signed && bits >= 1 << 127
 }
 
-/// The number of a native type that has these bits, where it lies within `i128`.
+/// Returns the number of a native type that has these bits, if `i128` has it.
 pub(crate) fn i128_of(bits: u128, is_signed: bool) -> Option<i128>
     ensures some { (n : ℤ) → AreBitsOf is_signed n bits → SomeIff result (FitsI128 n) n }
     ensures none { IsNone result → 2 ^ 127 ≤ bits }

@@ -4,7 +4,7 @@ use crate::failure::settle;
 use octet_streams::{StreamError, read_to_end};
 use std::test::Fail;
 
-/// Five thousand octets: more than one read gives.
+/// Five thousand octets: more than one read returns.
 const OCTETS: [u8; 5000] = [0x5A; 5000];
 
 #[test]

@@ -74,7 +74,7 @@ impl Integer {
         Integer::from_words(leading_octets_of(number), high, low)
     }
 
-    /// A number within `i64`: it takes the work of one word.
+    /// Returns a number within `i64`: it takes the work of one word.
     pub(crate) fn from_i64_inline(number: i64) -> Integer
         ensures { result ≡ number }
     {
@@ -82,7 +82,7 @@ impl Integer {
         Integer::from_words(8 + spare_of_eight(number), high, low)
     }
 
-    /// The number of two words, whose shortest octets begin at a place of its sixteen.
+    /// Returns the number of two words, whose shortest octets begin at an index of its sixteen.
     fn from_words(start: usize, high: u64, low: u64) -> Integer
         requires { let number = cast_signed w128 (high * 2 ^ 64 + low) in
             start + length (shortest_octets number) ≡ 16 }
@@ -96,7 +96,7 @@ impl Integer {
         }
     }
 
-    /// The two's complement value of one to sixteen octets.
+    /// Returns the two's complement value of one to sixteen octets.
     #[inline(always)]
     fn from_short_octets(octets: &[u8]) -> Integer
         requires some { 0 < length octets.now }
@@ -171,7 +171,7 @@ impl Integer {
         }
     }
 
-    /// The two's complement value of many octets, which take memory.
+    /// Returns the two's complement value of many octets, which take memory.
     #[inline(never)]
     fn from_long_octets_in_memory(alloc: Global, octets: &[u8]) -> Result<Integer, IntegerError>
         requires { 0 < length octets.now }
@@ -269,8 +269,8 @@ impl Integer {
         }
     }
 
-    /// The order of two numbers by their octets. Two numbers in one form are compared without this
-    /// call.
+    /// Returns the order of two numbers by their octets. Two numbers in one form are compared
+    /// without this call.
     #[cold]
     #[inline(never)]
     fn compare_by_octets(&self, other: &Integer) -> Ordering

@@ -65,7 +65,7 @@ impl<'a> IntegerBytes<'a> {
         }
     }
 
-    /// The octets of two words from `start` on.
+    /// Returns the octets of two words from `start` on.
     pub(crate) fn end_of(start: usize, high: u64, low: u64) -> IntegerBytes<'a>
         requires { start ≤ 16 }
         ensures { result ≡ drop start (to_be_bytes w64 high ++ to_be_bytes w64 low) }
@@ -79,7 +79,7 @@ impl<'a> IntegerBytes<'a> {
         }
     }
 
-    /// The octets themselves.
+    /// Returns the octets themselves.
     pub(crate) fn borrowed(octets: &'a [u8]) -> IntegerBytes<'a>
         ensures { result ≡ octets.now }
     {

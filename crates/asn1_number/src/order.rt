@@ -25,8 +25,8 @@ pub(crate) fn sixteen_keys(a: &[u8], b: &[u8]) -> (u64, u64)
     (word_of_eight(a_last), word_of_eight(b_last))
 }
 
-/// Two words in the order of the numbers that eight or more shortest octets each encode. Mostly the
-/// first eight, which hold the sign, tell two numbers of one length apart.
+/// Returns two words in the order of the numbers that eight or more shortest octets each encode.
+/// Mostly the first eight, which hold the sign, tell two numbers of one length apart.
 pub(crate) fn octets_keys(a: &[u8], b: &[u8]) -> (u64, u64)
     requires a_shortest { IsShortest (signed a.now) a.now }
     requires b_shortest { IsShortest (signed b.now) b.now }
@@ -40,7 +40,7 @@ pub(crate) fn octets_keys(a: &[u8], b: &[u8]) -> (u64, u64)
     (rank_of(compare_octets(a, b)), 1)
 }
 
-/// The number 0, 1 or 2 that is to 1 as the order says.
+/// Returns the number 0, 1 or 2 that is to 1 as the order says.
 pub(crate) fn rank_of(order: Ordering) -> u64
     ensures { nat_cmp result 1 ≡ order }
 {
@@ -51,8 +51,8 @@ pub(crate) fn rank_of(order: Ordering) -> u64
     }
 }
 
-/// The order of two numbers by their shortest octets: by sign, then by length, then octet by
-/// octet.
+/// Returns the order of two numbers by their shortest octets: by sign, then by length, then octet
+/// by octet.
 #[inline(never)]
 pub(crate) fn compare_octets(a: &[u8], b: &[u8]) -> Ordering
     requires a_shortest { IsShortest (signed a.now) a.now }

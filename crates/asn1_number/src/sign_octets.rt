@@ -2,15 +2,15 @@
 ghost use Rattle.std.specs.Prelude.{◌≡◌, ℕ, pos, ◌<◌, ◌≤◌, ◌↔◌, ◌⊎◌, length, drop, IsTrue};
 ghost use Rattle.asn1_number.specs.Octets.{IsShortest, IsShortestUnsigned, signed};
 
-/// Whether the first octet only repeats the sign of the second.
+/// Returns whether the first octet only repeats the sign of the second.
 fn repeats_sign(first: u8, second: u8) -> bool
     ensures { IsTrue result ↔ (((first ≡ 0) × (second < 128)) ⊎ ((first ≡ 255) × (128 ≤ second))) }
 {
     first == 0 && second < 128 || first == 255 && second >= 128
 }
 
-/// Whether the first octet alone tells that the octets are the shortest of their two's complement
-/// value (X.690 8.3.2), as it mostly does.
+/// Returns whether the first octet alone tells that the octets are the shortest of their two's
+/// complement value (X.690 8.3.2), as it mostly does.
 pub(crate) fn is_shortest_at_once(octets: &[u8]) -> bool
     requires { 0 < length octets.now }
     ensures { IsTrue result → IsShortest (signed octets.now) octets.now }

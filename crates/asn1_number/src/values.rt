@@ -7,7 +7,7 @@ ghost use Rattle.asn1_number.specs.Shortest.{shortest_octets};
 use crate::integer_bytes::IntegerBytes;
 use crate::sign_octets::is_shortest_at_once;
 
-/// The number of eight octets, most significant first.
+/// Returns the number of eight octets, most significant first.
 pub(crate) fn word_of_eight(octets: &[u8]) -> u64
     requires { length octets.now ≡ 8 }
     ensures value { result ≡ unsigned octets.now }
@@ -39,7 +39,7 @@ pub fn signed_value(octets: &[u8]) -> i128
     signed_front(front) * (1 << 64) + i128::from(word)
 }
 
-/// The two's complement value of one to eight octets: of eight as one word.
+/// Returns the two's complement value of one to eight octets: of eight as one word.
 fn signed_front(octets: &[u8]) -> i128
     requires some { 0 < length octets.now }
     requires few { length octets.now ≤ 8 }
@@ -51,7 +51,7 @@ fn signed_front(octets: &[u8]) -> i128
     signed_by_octets(octets)
 }
 
-/// The two's complement value of one to sixteen octets, octet by octet.
+/// Returns the two's complement value of one to sixteen octets, octet by octet.
 fn signed_by_octets(octets: &[u8]) -> i128
     requires some { 0 < length octets.now }
     requires few { length octets.now ≤ 16 }
@@ -78,7 +78,7 @@ pub fn unsigned_value(octets: &[u8]) -> u128
     value
 }
 
-/// How many of the eight octets of the number only repeat its sign.
+/// Returns how many of the eight octets of the number only repeat its sign.
 pub(crate) fn spare_of_eight(number: i64) -> usize
     ensures { result + length (shortest_octets number) ≡ 8 }
 {
@@ -87,8 +87,8 @@ pub(crate) fn spare_of_eight(number: i64) -> usize
     ((2 * distance.cast_unsigned() + 1).leading_zeros() / 8) as usize
 }
 
-/// Where the shortest octets of the number begin in its sixteen octets. A number within `i64`
-/// takes the work of one word.
+/// Returns where the shortest octets of the number begin in its sixteen octets. A number within
+/// `i64` takes the work of one word.
 pub(crate) fn leading_octets_of(number: i128) -> usize
     ensures { result + length (shortest_octets number) ≡ 16 }
 {
@@ -123,7 +123,7 @@ fn counted_leading_octets(octets: &[u8]) -> usize
     leading_octets_of(signed_value(octets))
 }
 
-/// The two words of the two's complement value of one to sixteen octets.
+/// Returns the two words of the two's complement value of one to sixteen octets.
 pub(crate) fn words_of_octets(octets: &[u8]) -> (u64, u64)
     requires some { 0 < length octets.now }
     requires few { length octets.now ≤ 16 }
@@ -150,7 +150,7 @@ fn words_by_octets(octets: &[u8]) -> (u64, u64)
     words_of_i128(signed_value(octets))
 }
 
-/// The two words of a number.
+/// Returns the two words of a number.
 pub(crate) fn words_of_i128(number: i128) -> (u64, u64)
     ensures { cast_signed w128 (result.0 * 2 ^ 64 + result.1) ≡ number }
 {
@@ -158,7 +158,7 @@ pub(crate) fn words_of_i128(number: i128) -> (u64, u64)
     ((bits >> 64) as u64, (bits % (1 << 64)) as u64)
 }
 
-/// The two words of a number within one.
+/// Returns the two words of a number within one.
 pub(crate) fn sign_extended(number: i64) -> (u64, u64)
     ensures { cast_signed w128 (result.0 * 2 ^ 64 + result.1) ≡ number }
 {
@@ -166,7 +166,7 @@ pub(crate) fn sign_extended(number: i64) -> (u64, u64)
     (high, number.cast_unsigned())
 }
 
-/// The two's complement value of one or two octets.
+/// Returns the two's complement value of one or two octets.
 fn signed_of_two(octets: &[u8]) -> i64
     requires some { 0 < length octets.now }
     requires few { length octets.now ≤ 2 }
@@ -179,8 +179,8 @@ fn signed_of_two(octets: &[u8]) -> i64
     (first * 256 + i128::from(octets[1])) as i64
 }
 
-/// Two words of eight octets that end with the shortest octets of the number, and where these
-/// begin. A number within `i64` takes the work of one word.
+/// Returns two words of eight octets that end with the shortest octets of the number, and where
+/// these begin. A number within `i64` takes the work of one word.
 pub(crate) fn shortest_in_words(number: i128) -> (usize, u64, u64)
     ensures count { result.0 + length (shortest_octets number) ≡ 16 }
     ensures octets { drop result.0 (to_be_bytes w64 result.1 ++ to_be_bytes w64 result.2)

@@ -94,7 +94,7 @@ pub fn check_contents<S: OctetSource>(source: &S) -> Result<(), ContentsError>
     examine(source)
 }
 
-/// Goes past all subidentifiers.
+/// Skips all subidentifiers.
 pub(crate) fn examine<S: OctetSource>(source: &S) -> Result<(), ContentsError>
     ensures reading { MatchResult result (λ _. IsOk (contents_reading (S.list source.now)))
         (λ e. contents_reading (S.list source.now) ≡ Err e) }
@@ -119,8 +119,8 @@ pub(crate) fn examine<S: OctetSource>(source: &S) -> Result<(), ContentsError>
     }
 }
 
-/// The arcs of contents. None where the octets are contents of no arcs that fit, or memory is
-/// wanting.
+/// Returns the arcs of contents. `None` if the octets are contents of no arcs that fit, or out of
+/// memory.
 pub(crate) fn arcs_in<S: OctetSource>(alloc: Global, source: &S) -> Option<Vec<u32>>
     ensures arcs { IfSome result (λ arcs. contents_reading (S.list source.now) ≡ Ok arcs.items) }
     ensures octets { All (λ octet. octet < 256) (S.list source.now) }
@@ -139,7 +139,7 @@ pub(crate) fn arcs_in<S: OctetSource>(alloc: Global, source: &S) -> Option<Vec<u
     Some(arcs)
 }
 
-/// Room for the arcs of so many octets: one more than these, of which the first may have two.
+/// Makes room for the arcs of so many octets: one more than these, of which the first may have two.
 fn room_for(alloc: Global, count: usize) -> Option<Vec<u32>>
     ensures empty { IfSome result (λ arcs. arcs.items ≡ []) }
     ensures room { IfSome result (λ arcs. (vec_len arcs ≡ 0) × (count + 1 ≤ vec_capacity arcs)) }
@@ -147,8 +147,8 @@ fn room_for(alloc: Global, count: usize) -> Option<Vec<u32>>
     Vec::with_capacity(alloc, count.checked_add(1)?).ok()
 }
 
-/// The number of the subidentifier at a place, and the place after it; None where none stands
-/// there, or a larger one.
+/// Returns the number of the subidentifier at an index, and the index after it; `None` if there is
+/// none, or a larger one.
 fn fitting_at<S: OctetSource>(source: &S, at: usize, largest: u64) -> Option<(u64, usize)>
     requires { at ≤ length (S.list source.now) }
     ensures stands { IfSome result
@@ -163,8 +163,8 @@ fn fitting_at<S: OctetSource>(source: &S, at: usize, largest: u64) -> Option<(u6
     }
 }
 
-/// The number of the subidentifier at a place, which stops growing where no arc can be so large,
-/// and the place after it; None where none stands there.
+/// Returns the number of the subidentifier at an index, which stops growing where no arc can be so
+/// large, and the index after it; `None` if there is none.
 fn subidentifier_at<S: OctetSource>(source: &S, at: usize) -> Option<(u64, usize)>
     requires { at ≤ length (S.list source.now) }
     ensures some { IfSome result (λ r. Stands (S.list source.now) at r.0 r.1 (largest_first + 1)) }

@@ -6,8 +6,8 @@ ghost use Rattle.asn1_oid.specs.Arcs.{with_stops};
 use itoa::write_digits;
 use std::str;
 
-/// The decimals of at most eight arcs, each after a full stop, at the end of the octets, and where
-/// they begin. An arc has at most ten digits, so eight have room in 88 octets.
+/// Returns the decimals of at most eight arcs, each after a full stop, at the end of the octets,
+/// and where they begin. An arc has at most ten digits, so eight have room in 88 octets.
 fn put_group(arcs: &[u32], room: &mut [u8; 88]) -> usize
     requires { length arcs.now ≤ 8 }
     ensures text { drop result room.new ≡ with_stops arcs.now }
@@ -22,8 +22,8 @@ fn put_group(arcs: &[u32], room: &mut [u8; 88]) -> usize
     start
 }
 
-/// The text of at least one and at most eight arcs, each after a full stop; `skipped` leaves the
-/// first full stop out.
+/// Returns the text of at least one and at most eight arcs, each after a full stop; `skipped`
+/// leaves the first full stop out.
 pub(crate) fn group_text<'a>(arcs: &[u32], skipped: usize, room: &'a mut [u8; 88]) -> &'a str
     requires some { 0 < length arcs.now }
     requires few { length arcs.now ≤ 8 }

@@ -17,7 +17,7 @@ pub struct Oid<'a> {
     ghost valid: { IsValidArcs arcs.now },
 }
 
-/// Whether the arcs are those of an identifier.
+/// Returns whether the arcs are those of an identifier.
 pub(crate) fn is_valid(arcs: &[u32]) -> bool
     ensures { IsTrue result ↔ IsValidArcs arcs.now }
 {

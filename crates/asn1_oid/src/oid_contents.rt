@@ -32,8 +32,8 @@ impl<'a> Model for OidContents<'a> {
     ghost invariant = { λ s. (s.left ≤ 5) × (s.back_left ≤ 5) };
 }
 
-/// The number of octets of a subidentifier: its binary digits divided by seven, rounded up, and at
-/// least one (X.690 8.19.2).
+/// Returns the number of octets of a subidentifier: its binary digits divided by seven, rounded up,
+/// and at least one (X.690 8.19.2).
 pub(crate) fn octet_count(number: u64) -> u32
     requires { number < 2 ^ 35 }
     ensures digits { HasDigits number result }
@@ -52,8 +52,8 @@ pub(crate) fn octet_count(number: u64) -> u32
     }
 }
 
-/// The octets of the subidentifier of a number, the first in the lowest eight bits, and how many
-/// they are.
+/// Returns the octets of the subidentifier of a number, the first in the lowest eight bits, and how
+/// many they are.
 fn octets_in_word(number: u64) -> (u64, u32)
     requires { number < 2 ^ 35 }
     ensures digits { HasDigits number result.1 }
@@ -108,7 +108,7 @@ fn take_last(word: u64, count: &mut u32) -> Option<u8>
     Some(((word >> (8 * *count)) % 256) as u8)
 }
 
-/// How many octets the subidentifiers of further arcs have.
+/// Returns how many octets the subidentifiers of further arcs have.
 pub(crate) fn octets_of_arcs(arcs: &[u32]) -> usize
     ensures len { result ≡ length (flat_map subidentifier_octets arcs.now) }
     ensures few { result ≤ 5 * length arcs.now }
@@ -121,7 +121,7 @@ pub(crate) fn octets_of_arcs(arcs: &[u32]) -> usize
 }
 
 impl<'a> OidContents<'a> {
-    /// The octets of a subidentifier, and of those of further arcs.
+    /// Returns the octets of a subidentifier, and of those of further arcs.
     pub(crate) fn of(number: u64, arcs: &'a [u32]) -> OidContents<'a>
         requires { number < 2 ^ 35 }
         ensures { (k : ℕ) → HasDigits number k → result ≡ octets_left number k arcs.now }

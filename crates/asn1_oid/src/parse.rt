@@ -76,7 +76,7 @@ fn store(room: &mut [u32], at: usize, number: u32)
     }
 }
 
-/// The octets before the first full stop, and those after it, if there is one.
+/// Returns the octets before the first full stop, and those after it, if there is one.
 fn first_part(text: &[u8]) -> (&[u8], Option<&[u8]>)
     ensures parts { slice_split (λ b. b == full_stop) text.now ≡ result.0.now
         ∷ option_map_or (λ behind. slice_split (λ b. b == full_stop) behind.now) result.1 [] }
@@ -92,7 +92,7 @@ fn first_part(text: &[u8]) -> (&[u8], Option<&[u8]>)
     (text, None)
 }
 
-/// The number of which the octets are the decimal.
+/// Returns the number of which the octets are the decimal.
 fn number_of(part: &[u8]) -> Option<u32>
     ensures some { IfSome result (λ n. (decimal n ≡ part.now) × (n < 2 ^ 32)) }
     ensures none { IfNone result ((n : ℕ) → n < 2 ^ 32 → decimal n ≢ part.now) }

@@ -23,7 +23,7 @@ impl<'a, T: CodeUnit> Model for Chars<'a, T> {
 }
 
 impl<'a, T: CodeUnit> Chars<'a, T> {
-    /// The characters of these units.
+    /// Returns the characters of these units.
     pub(crate) fn of(units: &'a [T]) -> Chars<'a, T>
         ensures { result ≡ map T.value units.now }
     {

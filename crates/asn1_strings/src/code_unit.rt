@@ -160,8 +160,8 @@ impl CodeUnit for u16 {
     ghost few_octets = { lit≤ tt };
 }
 
-/// Whether all octets are in `first..=last`. It takes the greatest `octet.wrapping_sub(first)`:
-/// octets below `first` wrap to large values.
+/// Returns whether all octets are in `first..=last`. It takes the greatest
+/// `octet.wrapping_sub(first)`: octets below `first` wrap to large values.
 fn lie_between(octets: &[u8], first: u8, last: u8) -> bool
     requires { first ≤ last }
     ensures { IsTrue result ↔ All (λ c. (first ≤ c) × (c ≤ last)) octets.now }
@@ -173,7 +173,7 @@ fn lie_between(octets: &[u8], first: u8, last: u8) -> bool
     most <= last - first
 }
 
-/// The largest number of a pair of octets, or 0.
+/// Returns the largest number of a pair of octets, or 0.
 fn largest_pair(pairs: &[[u8; 2]]) -> u16
     ensures { result ≡ largest (map (from_be_bytes w16) pairs.now) }
 {

@@ -97,7 +97,8 @@ pub(crate) fn string_of_numbers<'a, S: StaticPermittedAlphabet>(
     decode_string::<S, Identity>(alloc, characters, &Identity)
 }
 
-/// The string of bits in a map: by keys where its largest character needs more bits than a key has.
+/// Returns the string of bits in a map: by keys where its largest character needs more bits than a
+/// key has.
 #[inline(always)]
 pub(crate) fn string_of_bits_in<'a, S: StaticPermittedAlphabet, M: CountedKeys>(
     alloc: Global,

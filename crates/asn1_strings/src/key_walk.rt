@@ -15,7 +15,7 @@ use asn1_characters::widths::codes_of;
 use asn1_characters::{CharacterSetName, PermittedAlphabetError};
 use std::alloc::Global;
 
-/// The string of the characters at these keys.
+/// Returns the string of the characters at these keys.
 #[inline(always)]
 pub(crate) fn decode_string<'a, S: StaticPermittedAlphabet, M: Keys>(
     alloc: Global,
@@ -107,7 +107,7 @@ fn checked_character<S: StaticPermittedAlphabet>(found: Option<u32>) -> (u32, bo
     }
 }
 
-/// Whether a set has the character, by ranges.
+/// Returns whether a set has the character, by ranges.
 #[inline(always)]
 fn is_in(name: CharacterSetName, character: u32) -> bool
     ensures { result ≡ has_character (base_set name) character }

@@ -16,14 +16,14 @@ pub(crate) struct OctetPieces<'a> {
 }
 
 impl<'a> OctetPieces<'a> {
-    /// How many characters there are.
+    /// Returns how many characters there are.
     pub(crate) fn count(&self) -> usize
         ensures { result ≡ length (map unsigned (pieces self.now.width self.now.octets.now)) }
     {
         self.octets.len() / self.width
     }
 
-    /// The character at a place.
+    /// Returns the character at an index.
     pub(crate) fn character(&self, i: usize) -> u32
         requires { i < length (map unsigned (pieces self.now.width self.now.octets.now)) }
         ensures { result
@@ -43,14 +43,14 @@ pub(crate) struct BitPieces<'a> {
 }
 
 impl<'a> BitPieces<'a> {
-    /// How many characters there are.
+    /// Returns how many characters there are.
     pub(crate) fn count(&self) -> usize
         ensures { result ≡ length (map number (pieces self.now.width (bits_of self.now.bits))) }
     {
         self.bits.len() / self.width
     }
 
-    /// The character at a place.
+    /// Returns the character at an index.
     pub(crate) fn character(&self, i: usize) -> u32
         requires { i < length (map number (pieces self.now.width (bits_of self.now.bits))) }
         ensures { result ≡ slice_index (map number (pieces self.now.width (bits_of self.now.bits)))
@@ -75,7 +75,7 @@ impl<'a> BitPieces<'a> {
     }
 }
 
-/// The piece at a place.
+/// Returns the piece at an index.
 fn piece_of(octets: &[u8], width: usize, i: usize) -> &[u8]
     requires { i < length octets.now / width }
     ensures { result.now ≡ piece width octets.now i }
@@ -86,7 +86,7 @@ fn piece_of(octets: &[u8], width: usize, i: usize) -> &[u8]
     &rest[..width]
 }
 
-/// The number of at most four octets.
+/// Returns the number of at most four octets.
 fn unsigned_of(octets: &[u8]) -> u32
     requires { length octets.now ≤ 4 }
     ensures { result ≡ unsigned octets.now }

@@ -138,7 +138,7 @@ impl<K: StringKind> RestrictedString<K> {
         self.units
     }
 
-    /// The allocator of the string.
+    /// Returns the allocator of the string.
     pub(crate) fn allocator(&self) -> Global {
         *self.units.allocator()
     }

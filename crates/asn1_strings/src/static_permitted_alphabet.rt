@@ -335,8 +335,8 @@ pub trait StaticPermittedAlphabet: HasCharacterSet + Sized + Drop {
         c < Self.T.limit };
 }
 
-/// The string of characters of `width` octets each, one by one: they are examined first, then
-/// memory is requested. Cold path: input is mostly right and of the string's own width.
+/// Returns the string of characters of `width` octets each, one by one: they are examined first,
+/// then memory is requested. Cold path: input is mostly right and of the string's own width.
 #[inline(never)]
 fn string_of_pieces<S: StaticPermittedAlphabet>(
     alloc: Global,
@@ -361,7 +361,7 @@ fn string_of_pieces<S: StaticPermittedAlphabet>(
     copy_of_pieces::<S>(alloc, source)
 }
 
-/// The string of characters that its set has.
+/// Returns the string of characters that its set has.
 fn copy_of_pieces<'a, S: StaticPermittedAlphabet>(
     alloc: Global,
     source: OctetPieces<'a>,
@@ -380,7 +380,7 @@ fn copy_of_pieces<'a, S: StaticPermittedAlphabet>(
     Ok(string)
 }
 
-/// The string of octets whose characters its set has: all at once.
+/// Returns the string of octets whose characters its set has: all at once.
 fn copied_octets<S: StaticPermittedAlphabet>(
     alloc: Global,
     octets: &[u8],

@@ -81,8 +81,8 @@ fn view_from<'a>(octets: &'a [u8], line: &[u8]) -> Result<Option<BitStr<'a>>, Al
     Ok(Some(view))
 }
 
-/// The fields of the shapes, what is left, and the fields written again; or the line that names the
-/// first wrong field.
+/// Returns the fields of the shapes, what is left, and the fields written again; or the line that
+/// names the first invalid field.
 fn read_and_print(
     alloc: Global,
     view: BitStr<'_>,
@@ -100,7 +100,7 @@ fn read_and_print(
     }
 }
 
-/// The answer of fields that were found.
+/// Returns the answer of fields that were found.
 fn printed_fields(
     alloc: Global,
     fields: &[Field<'_, '_>],
@@ -121,7 +121,7 @@ fn printed_fields(
     })
 }
 
-/// The answer of an input that does not begin with fields of the shapes.
+/// Returns the answer of an input that does not begin with fields of the shapes.
 fn printed_fault(alloc: Global, error: ReadError) -> Result<Answer, AllocError>
     ensures { IfOk result (λ answer. answer_in answer
         ≡ record { text = line (codes "refused: " ++ error_text error); status = 1 }) }

@@ -24,8 +24,8 @@ pub struct Lines<'a> {
 }
 
 impl<'a> Lines<'a> {
-    /// The lines of the text; None where they are not three. The last LF may be missing where its
-    /// line is not empty.
+    /// Returns the lines of the text; `None` if they are not three. The last LF may be missing
+    /// where its line is not empty.
     pub fn of(text: &'a [u8]) -> Option<Lines<'a>>
         ensures { MatchOption result ((lines : input.Lines) → ¬ (AreLines text.now lines))
             (λ lines. AreLines text.now (record {
@@ -45,7 +45,7 @@ impl<'a> Lines<'a> {
     }
 }
 
-/// The last line of a text: all of it, without an LF at its end if it has one.
+/// Returns the last line of a text: all of it, without an LF at its end if it has one.
 fn last_line(text: &[u8]) -> Option<&[u8]>
     ensures { MatchOption result ((line : List ℕ) → ¬ (IsLastLine (parts text.now) line))
         (λ line. IsLastLine (parts text.now) line.now) }
@@ -56,7 +56,7 @@ fn last_line(text: &[u8]) -> Option<&[u8]>
     if rest.is_empty() { Some(line) } else { None }
 }
 
-/// What stands before the first such octet, and what stands after it; None where there is none.
+/// Returns what is before the first such octet, and what is after it; `None` if there is none.
 fn split_once(text: &[u8], separator: u8) -> Option<(&[u8], &[u8])>
     ensures none { IfNone result
         (slice_split (λ c. c == separator) text.now ≡ text.now ∷ []) }
@@ -67,7 +67,7 @@ fn split_once(text: &[u8], separator: u8) -> Option<(&[u8], &[u8])>
     Some((&text[..at], &text[at + 1..]))
 }
 
-/// One to nine decimal digits, without a leading zero unless the number is 0.
+/// Returns the number of one to nine decimal digits, without a leading zero unless the number is 0.
 pub fn number(digits: &[u8]) -> Option<usize>
     ensures { MatchOption result ((n : ℕ) → ¬ (IsNumber digits.now n)) (IsNumber digits.now) }
 {
@@ -87,7 +87,7 @@ pub fn number(digits: &[u8]) -> Option<usize>
     Some(value)
 }
 
-/// The value of a decimal digit.
+/// Returns the value of a decimal digit.
 fn digit_value(octet: u8) -> Option<usize>
     ensures { SomeIff result (IsInRange 48 57 octet) (octet - 48) }
 {
@@ -97,7 +97,7 @@ fn digit_value(octet: u8) -> Option<usize>
     }
 }
 
-/// The shape that a word names: a letter alone, or a letter and a number.
+/// Returns the shape that a word names: a letter alone, or a letter and a number.
 fn shape(word: &[u8], numeric: &CharacterAlphabet<'static>) -> Option<Shape<'static>>
     requires { alphabet_of numeric.now ≡ effective Numeric None false }
     ensures { MatchOption result ((shape : plain.Shape) → ¬ (IsWord word.now shape))
@@ -111,8 +111,8 @@ fn shape(word: &[u8], numeric: &CharacterAlphabet<'static>) -> Option<Shape<'sta
     counted_shape(*letter, count)
 }
 
-/// The shape of a letter alone: `a`, a character of the `numeric` alphabet, or `c`, an integer
-/// after the number of its octets.
+/// Returns the shape of a letter alone: `a`, a character of the `numeric` alphabet, or `c`, an
+/// integer after the number of its octets.
 fn lone_shape(letter: u8, numeric: &CharacterAlphabet<'static>) -> Option<Shape<'static>>
     requires { alphabet_of numeric.now ≡ effective Numeric None false }
     ensures { MatchOption result ((shape : plain.Shape) → ¬ (IsWord (letter ∷ []) shape))
@@ -125,9 +125,9 @@ fn lone_shape(letter: u8, numeric: &CharacterAlphabet<'static>) -> Option<Shape<
     }
 }
 
-/// The shape of a letter and a number: `n` and the width of a number in bits, `o` and a number of
-/// octets, `b` and a number of bits, `i` and the number of an integer's octets, or `d` and the
-/// number of octets of an identifier's contents.
+/// Returns the shape of a letter and a number: `n` and the width of a number in bits, `o` and a
+/// number of octets, `b` and a number of bits, `i` and the number of an integer's octets, or `d`
+/// and the number of octets of an identifier's contents.
 fn counted_shape(letter: u8, count: usize) -> Option<Shape<'static>>
     requires { count < 10 ^ 9 }
     ensures { MatchOption result ((shape : plain.Shape) → ¬ (IsWord (letter ∷ decimal count) shape))
@@ -143,7 +143,8 @@ fn counted_shape(letter: u8, count: usize) -> Option<Shape<'static>>
     }
 }
 
-/// The shapes that the words of the line name, separated by single spaces; None for another line.
+/// Returns the shapes that the words of the line name, separated by single spaces; `None` for
+/// another line.
 pub fn shapes(alloc: Global, line: &[u8]) -> Result<Option<Vec<Shape<'static>>>, AllocError>
     ensures { IfOk result (λ found. MatchOption found
         ((shapes : List plain.Shape) → ¬ (AreWords line.now shapes))

@@ -9,8 +9,8 @@ use asn1_values::{BitStr, Field, Integer, ReadError, laws_of_shortest_octets};
 use std::alloc::{AllocError, Global};
 use std::fmt::Write;
 
-/// A line for each field, then the number of bits that are left, then the octets of the fields
-/// written again.
+/// Returns a line for each field, then the number of bits that are left, then the octets of the
+/// fields written again.
 pub fn print_fields(
     alloc: Global,
     fields: &[Field<'_, '_>],
@@ -27,7 +27,7 @@ pub fn print_fields(
     Ok(text)
 }
 
-/// A line for each field.
+/// Returns the text with a line for each field.
 fn print_all(alloc: Global, fields: &[Field<'_, '_>]) -> Result<String, AllocError>
     ensures { IfOk result (λ text. string_bytes text ≡ field_lines (plain_fields fields.now)) }
 {
@@ -81,7 +81,7 @@ fn push_digits(text: &mut String, bits: BitStr<'_>) -> Result<(), AllocError>
     Ok(())
 }
 
-/// The digit of a bit.
+/// Returns the digit of a bit.
 fn digit(bit: bool) -> char
     ensures { result ≡ (if bit then 49 else 48) }
 {
@@ -120,7 +120,7 @@ fn print_octets(
     writeln!(text, "{label} {digits}")
 }
 
-/// The line for an input that does not begin with fields of the shapes.
+/// Returns the line for an input that does not begin with fields of the shapes.
 pub fn print_fault(alloc: Global, error: ReadError) -> Result<String, AllocError>
     ensures { IfOk result
         (λ text. string_bytes text ≡ line (codes "refused: " ++ error_text error)) }

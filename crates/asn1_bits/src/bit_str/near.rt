@@ -7,7 +7,7 @@ ghost use Rattle.asn1_bits.specs.View.{part};
 use super::BitStr;
 
 impl<'a> BitStr<'a> {
-    /// The first `len` bits of the view.
+    /// Returns the first `len` bits of the view.
     #[inline(always)]
     pub(crate) fn front(&self, len: usize) -> BitStr<'a>
         requires { len ≤ (view_of self.now).len }

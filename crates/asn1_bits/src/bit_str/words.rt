@@ -8,8 +8,8 @@ use super::BitStr;
 use crate::reads::{read_57, read_64, read_128, read_word, whole_word};
 
 impl BitStr<'_> {
-    /// The number of the first `width` bits, the first of them its highest digit. `INLINE_NEAR_END` inlines
-    /// the path for more than 64 bits near the end of the storage.
+    /// Returns the number of the first `width` bits, the first of them its highest digit.
+    /// `INLINE_NEAR_END` inlines the path for more than 64 bits near the end of the storage.
     #[inline(always)]
     pub(crate) fn first_u128<const INLINE_NEAR_END: bool>(&self, width: usize) -> u128
         requires width { width ≤ 128 }
@@ -27,7 +27,7 @@ impl BitStr<'_> {
         read_128::<INLINE_NEAR_END>(self.storage, self.octet, self.shift, width)
     }
 
-    /// `width` bits from bit `at` on, as the lowest digits of a word.
+    /// Returns `width` bits from bit `at` on, as the lowest digits of a word.
     #[inline(always)]
     pub(crate) fn word(&self, at: usize, width: usize) -> u64
         requires width { width ≤ 64 }
@@ -39,7 +39,7 @@ impl BitStr<'_> {
         read_word(self.storage, octet, low % 8, width)
     }
 
-    /// The view's bits, at most 64, as the lowest digits of a word.
+    /// Returns the view's bits, at most 64, as the lowest digits of a word.
     #[inline(always)]
     pub(crate) fn own_word(&self) -> u64
         requires { (view_of self.now).len ≤ 64 }
@@ -48,8 +48,8 @@ impl BitStr<'_> {
         read_word(self.storage, self.octet, self.shift, self.len)
     }
 
-    /// The view's bits, of which there are 1 to 64, as the lowest digits of a word. None near the
-    /// end of the storage.
+    /// Returns the view's bits, of which there are 1 to 64, as the lowest digits of a word. `None`
+    /// near the end of the storage.
     #[inline(always)]
     pub(crate) fn word_unless_near_end(&self) -> Option<u64>
         requires some { 0 < (view_of self.now).len }
@@ -65,7 +65,7 @@ impl BitStr<'_> {
         Some(read_57(self.storage, self.octet, self.shift, self.len))
     }
 
-    /// The number of the first 64 bits.
+    /// Returns the number of the first 64 bits.
     #[inline(always)]
     pub(crate) fn first_word(&self) -> u64
         requires { 64 ≤ (view_of self.now).len }
@@ -74,7 +74,7 @@ impl BitStr<'_> {
         read_64(self.storage, self.octet, self.shift, 64)
     }
 
-    /// The last 64 bits of a view of whole words, as the digits of a word.
+    /// Returns the last 64 bits of a view of whole words, as the digits of a word.
     #[inline(always)]
     pub(super) fn last_word(&self) -> u64
         requires some { 64 ≤ (view_of self.now).len }
@@ -87,7 +87,7 @@ impl BitStr<'_> {
         read_64(self.storage, octet, self.shift, 64)
     }
 
-    /// The 64 bits from bit `at` on, as the digits of a word.
+    /// Returns the 64 bits from bit `at` on, as the digits of a word.
     pub(crate) fn word_of_64(&self, at: usize) -> u64
         requires { at + 64 ≤ (view_of self.now).len }
         ensures { digits result 64 ≡ take 64 (drop at (bits_of self.now)) }

@@ -7,7 +7,7 @@ ghost use Rattle.asn1_bits.specs.Bits.{bits, digits, ored, overwritten, IsZeroFr
 use crate::clear::clear_bits;
 use crate::reads::{eight, load};
 
-/// Eight octets from one of them on, as a word whose lowest octet is the first of them.
+/// Returns eight octets from one of them on, as a word whose lowest octet is the first of them.
 #[inline(always)]
 fn load_native(octets: &[u8], first: usize) -> u64
     requires { first + 8 ≤ length octets.now }

@@ -16,7 +16,7 @@ use super::number::overwrite_digits;
 use super::take::take_bits;
 use asn1_bits::{BitAppender, BitReader, BitStr, Turns, overwrite_bitslice, read_u128};
 
-/// How many bits they are.
+/// Returns how many bits they are.
 #[inline(always)]
 pub(super) fn len_or_misfit(bits: &BitStr<'_>) -> u128
     ensures { FitsIn (plain.Bits (bits_of bits.now)) result }
@@ -95,7 +95,7 @@ pub(super) fn overwrite_view(target: &mut [u8], position: usize, view: BitStr<'_
     position + len
 }
 
-/// Goes past `length` bits, and gives them.
+/// Reads `length` bits, and returns them.
 #[tactic(auto, unfolding(crate::specs::Walk::field_at, crate::specs::Walk::cut_at))]
 pub(super) fn take_value<'a>(
     reader: &mut BitReader<'a>,

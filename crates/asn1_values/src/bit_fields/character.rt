@@ -17,7 +17,7 @@ use super::take::take_few;
 use asn1_alphabets::CharacterAlphabet;
 use asn1_bits::{BitAppender, BitReader, Turns};
 
-/// The width of the alphabet, if it has a code for the character.
+/// Returns the width of the alphabet, if it has a code for the character.
 #[inline(always)]
 pub(super) fn len_or_misfit(
     alphabet: &CharacterAlphabet<'_>,
@@ -74,7 +74,7 @@ pub(super) fn overwrite(
     }
 }
 
-/// Goes past a character, if the alphabet has one for the code, and gives it.
+/// Reads a character, and returns it, if the alphabet has one for the code.
 #[inline(always)]
 #[tactic(auto, unfolding(crate::specs::Walk::field_at, crate::specs::Walk::cut_at))]
 pub(super) fn take_value(

@@ -18,7 +18,8 @@ use asn1_bits::{BitAppender, BitReader, Turns};
 use asn1_integer::{Integer, read_signed};
 use std::alloc::Global;
 
-/// How many bits the shortest octets and the octet before them have, if they are at most 127.
+/// Returns how many bits the shortest octets and the octet before them have, if they are at most
+/// 127.
 #[inline(always)]
 pub(super) fn len_or_misfit(number: &Integer, field: usize) -> Result<u128, WriteError>
     ensures { Measures field (plain.CountedInteger number.now) result }
@@ -51,7 +52,7 @@ pub(super) fn overwrite(target: &mut [u8], position: usize, number: &Integer) ->
     overwrite_shortest(target, next, number)
 }
 
-/// Goes past a counted integer, and gives the octets after its first, if that is 1 to 127, and so
+/// Reads a counted integer, and returns the octets after its first, if that is 1 to 127, and so
 /// many octets are the shortest of a number.
 #[inline(always)]
 pub(super) fn take_value<'a>(

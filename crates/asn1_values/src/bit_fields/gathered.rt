@@ -17,7 +17,7 @@ pub(super) struct Gathered {
 }
 
 impl Gathered {
-    /// No digits.
+    /// Returns no digits.
     pub(super) fn none() -> Gathered
         ensures { result.width ≡ 0 }
     {

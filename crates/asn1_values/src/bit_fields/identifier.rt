@@ -18,7 +18,7 @@ use asn1_bits::{BitAppender, BitReader, Turns};
 use asn1_oid::{ContentsError, ObjectIdentifier, OidContents, check_contents};
 use std::alloc::{AllocError, Global};
 
-/// How many bits the contents have, if the identifier has two arcs.
+/// Returns how many bits the contents have, if the identifier has two arcs.
 #[inline(always)]
 pub(super) fn len_or_misfit(oid: &ObjectIdentifier, field: usize) -> Result<u128, WriteError>
     ensures { Measures field (plain.Identifier oid.now) result }
@@ -99,7 +99,7 @@ fn overwrite_each(target: &mut [u8], position: usize, octets: OidContents<'_>) -
     next
 }
 
-/// Goes past an identifier, and gives its contents, if the octets are contents.
+/// Reads an identifier, and returns its contents, if the octets are contents.
 #[tactic(auto, unfolding(crate::specs::Walk::field_at, crate::specs::Walk::cut_at))]
 pub(super) fn take_value<'a>(
     reader: &mut BitReader<'a>,
@@ -140,7 +140,7 @@ pub(super) fn read_into<'a>(
     Ok(())
 }
 
-/// The identifier whose contents are the octets that the reader has left.
+/// Returns the identifier whose contents are the octets that the reader has left.
 #[inline(never)]
 fn identifier_of(alloc: Global, reader: &BitReader<'_>) -> Result<ObjectIdentifier, AllocError>
     ensures { IfOk result (λ arcs.

@@ -18,7 +18,7 @@ use asn1_bits::{BitAppender, BitReader, Turns};
 use asn1_integer::{Integer, read_signed};
 use std::alloc::{AllocError, Global};
 
-/// How many bits the shortest octets have.
+/// Returns how many bits the shortest octets have.
 #[inline(always)]
 pub(super) fn len_or_misfit(number: &Integer) -> u128
     ensures { FitsIn (plain.Integer number.now) result }
@@ -93,7 +93,7 @@ pub(super) fn overwrite_shortest(target: &mut [u8], position: usize, number: &In
     }
 }
 
-/// Goes past an integer, and gives its octets, if they are the shortest of a number: if the first
+/// Reads an integer, and returns its octets, if they are the shortest of a number: if the first
 /// nine of their bits are not all alike (X.690 8.3.2), or there is one octet.
 #[tactic(auto, unfolding(crate::specs::Walk::integer_at, crate::specs::Walk::cut_at))]
 pub(super) fn take_value<'a>(

@@ -14,7 +14,7 @@ use super::gathered::Gathered;
 use super::take::take_few;
 use asn1_bits::{BitAppender, BitReader, Turns, overwrite_number};
 
-/// The width, if it is at most 128 and the number is below 2 to its power.
+/// Returns the width, if it is at most 128 and the number is below 2 to its power.
 #[inline(always)]
 pub(super) fn len_or_misfit(value: u128, width: usize, field: usize) -> Result<u128, WriteError>
     ensures { Measures field (plain.Number value width) result }
@@ -93,7 +93,7 @@ pub(super) fn overwrite_digits(
     position + width
 }
 
-/// Goes past a number, and gives it.
+/// Reads a number, and returns it.
 #[inline(always)]
 #[tactic(auto, unfolding(crate::specs::Walk::field_at, crate::specs::Walk::cut_at))]
 pub(super) fn take_value(

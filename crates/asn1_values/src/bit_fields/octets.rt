@@ -17,7 +17,7 @@ use super::take::take_bits;
 use asn1_bits::{BitAppender, BitReader, BitStr, Octets, Turns};
 use std::alloc::Global;
 
-/// How many bits the octets have.
+/// Returns how many bits the octets have.
 #[inline(always)]
 pub(super) fn len_or_misfit(octets: &Octets<'_>) -> u128
     ensures { FitsIn (plain.Octets (octets_in octets.now)) result }
@@ -63,7 +63,7 @@ pub(super) fn overwrite_octets(target: &mut [u8], position: usize, octets: &[u8]
     bits::overwrite_view(target, position, BitStr::from_octets(octets))
 }
 
-/// Goes past `count` octets, and gives them.
+/// Reads `count` octets, and returns them.
 #[tactic(auto, unfolding(crate::specs::Walk::field_at, crate::specs::Walk::cut_at))]
 pub(super) fn take_value<'a>(
     reader: &mut BitReader<'a>,

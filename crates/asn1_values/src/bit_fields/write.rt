@@ -158,8 +158,8 @@ fn refusal_of(len: usize, fields: &[Field<'_, '_>]) -> WriteError
     }
 }
 
-/// The length after the fields, without checking that characters have codes. `None` if a field of
-/// another kind does not fit, or the length exceeds `usize::MAX`.
+/// Returns the length after the fields, without checking that characters have codes. `None` if a
+/// field of another kind does not fit, or the length exceeds `usize::MAX`.
 #[inline(always)]
 fn append_end_if_all_fit(len: usize, fields: &[Field<'_, '_>]) -> Option<usize>
     ensures { MatchOption result
@@ -174,7 +174,7 @@ fn append_end_if_all_fit(len: usize, fields: &[Field<'_, '_>]) -> Option<usize>
     Some(end)
 }
 
-/// The end of so many bits after another end. `None` if it exceeds `usize::MAX`.
+/// Returns the end of so many bits after another end. `None` if it exceeds `usize::MAX`.
 #[inline(always)]
 pub(super) fn end_after(end: usize, additional: u128) -> Option<usize>
     ensures { MatchOption result (2 ^ 64 ≤ end + additional) (λ n. n ≡ end + additional) }
@@ -202,8 +202,8 @@ fn len_if_fits(field: &Field<'_, '_>) -> Option<u128>
     }
 }
 
-/// The length after the fields, if all fit. The sum saturates at `u128::MAX`, and later fields are
-/// still examined.
+/// Returns the length after the fields, if all fit. The sum saturates at `u128::MAX`, and later
+/// fields are still examined.
 #[inline(always)]
 pub(super) fn end_or_misfit(len: usize, fields: &[Field<'_, '_>]) -> Result<u128, WriteError>
     ensures { MeasuresAll len (plain_fields fields.now) result }
@@ -215,7 +215,7 @@ pub(super) fn end_or_misfit(len: usize, fields: &[Field<'_, '_>]) -> Result<u128
     Ok(end)
 }
 
-/// The sum of two lengths, saturating.
+/// Returns the sum of two lengths, saturating.
 #[inline(always)]
 fn sum_of(one: u128, other: u128) -> u128
     ensures { result ≡ min (one + other) (2 ^ 128 - 1) }
@@ -235,7 +235,7 @@ fn past_all_lengths(one: u128, other: u128) -> u128
     one.saturating_add(other)
 }
 
-/// The number of a field's bits, if it fits.
+/// Returns the number of a field's bits, if it fits.
 #[inline(always)]
 pub(super) fn len_or_misfit(field: &Field<'_, '_>, index: usize) -> Result<u128, WriteError>
     ensures { Measures index (plain_field field.now) result }

@@ -71,7 +71,7 @@ pub fn write_fields_at(
     Ok(overwrite_all(octets, position, fields))
 }
 
-/// The bit after the fields, if all fit.
+/// Returns the bit after the fields, if all fit.
 #[inline(always)]
 fn overwrite_end(position: usize, fields: &[Field<'_, '_>]) -> Result<u128, WriteError>
     ensures { MeasuresAll position (plain_fields fields.now) result }
@@ -82,7 +82,8 @@ fn overwrite_end(position: usize, fields: &[Field<'_, '_>]) -> Result<u128, Writ
     }
 }
 
-/// The bit after the fields, if all fit and `usize` counts it. It does not say which field does not fit.
+/// Returns the bit after the fields, if all fit and `usize` counts it. It does not say which field
+/// does not fit.
 #[inline(always)]
 fn overwrite_end_if_all_fit(position: usize, fields: &[Field<'_, '_>]) -> Option<usize>
     ensures { IfSome result (EndsAt IsSpelledBy position (plain_fields fields.now)) }
