@@ -16,7 +16,7 @@
  * one. Bits count from 0, through the octets in their order. A length of octets, arcs or characters is in those.
  *
  * Where a code is not ASN1V_DONE, what the function would have written is unchanged, unless its text says otherwise: a
- * length that is needed is told beside ASN1V_ROOM.
+ * length that is needed is returned beside ASN1V_ROOM.
  */
 #ifndef ASN1V_VALUES_H
 #define ASN1V_VALUES_H
@@ -135,9 +135,9 @@ asn1v_code asn1v_alphabet_width(const asn1v_alphabet *alphabet, size_t *width);
 
 /* ---- fields
  *
- * A shape is what is known of a field before it is read: its kind, and how many bits or octets it has, or the place of
- * its alphabet in the list of alphabets that is passed with the shapes. A field is told by its first bit and how many
- * bits it has, so nothing is copied, and by its number where it has one of at most 128 bits. */
+ * A shape is what is known of a field before it is read: its kind, and how many bits or octets it has, or the index of
+ * its alphabet in the list of alphabets that is passed with the shapes. A field is returned by its first bit and how
+ * many bits it has, so nothing is copied, and by its number where it has one of at most 128 bits. */
 
 #define ASN1V_NUMBER UINT32_C(0)          /* a number of count bits, at most 128 */
 #define ASN1V_OCTETS UINT32_C(1)          /* count octets */
@@ -191,9 +191,10 @@ asn1v_code asn1v_read_fields(const uint8_t *octets, size_t octet_count, size_t p
 
 /* Writes fields of the shapes one after another over the bits of the target, from bit position on, and tells the first
  * bit after them; every other bit of the target stays. A number and a character are written by their number, and so is
- * an integer whose length is at most 128 bits, or 136 if it is counted: an integer that is told by value has length 0.
- * Of a character, high is not looked at. Every other field is written by its bits, which lie in the source where first
- * and length say. So fields that asn1v_read_fields told are written with the octets that they were read from as source.
+ * an integer whose length is at most 128 bits, or 136 if it is counted: an integer that is returned by value has length
+ * 0. Of a character, high is not looked at. Every other field is written by its bits, which are in the source where
+ * first and length say. So fields that asn1v_read_fields returned are written with the octets that they were read from
+ * as source.
  *
  * All fields are looked at before a bit is written. ASN1V_COUNT where there are not as many fields as shapes, otherwise
  * ASN1V_TOO_MANY where 8 * source_count exceeds SIZE_MAX; then *refusal is unchanged. Otherwise *refusal names
@@ -226,7 +227,7 @@ asn1v_code asn1v_octets_at(const uint8_t *octets, size_t octet_count, size_t fir
 /* ---- whole numbers, as two's complement octets, most significant first (X.690 8.3) */
 
 /* Writes the shortest octets of the number to the front of the room, and leaves the octets after them. Their count,
- * at most 8, is told also where the answer is ASN1V_ROOM. */
+ * at most 8, is returned also where the answer is ASN1V_ROOM. */
 ASN1V_NODISCARD
 asn1v_code asn1v_integer_from_i64(int64_t number, uint8_t *room, size_t room_count, size_t *count);
 
@@ -261,7 +262,7 @@ asn1v_code asn1v_integer_to_u128(const uint8_t *octets, size_t octet_count, asn1
 
 /* Writes the decimal text of the number of the octets, of any length, to the front of the room, and leaves the
  * octets after it: the digits, with no zero before others, after a minus sign where the number is below zero.
- * Nothing ends it. 5 * octet_count / 2 + 2 octets are always enough. A length that is enough is told also where the
+ * Nothing ends it. 5 * octet_count / 2 + 2 octets are always enough. A length that is enough is returned also where the
  * answer is ASN1V_ROOM: that of the text, at most 40, where the number has 128 bits, with a sign or without; and
  * otherwise 5 * n / 2 + 2, of n octets after those that only repeat the sign. ASN1V_EMPTY for no octets;
  * ASN1V_TOO_MANY where 5 * octet_count / 2 + 2 exceeds SIZE_MAX. The time grows as the square of the length: the
@@ -272,7 +273,7 @@ asn1v_code asn1v_integer_text(const uint8_t *octets, size_t octet_count, uint8_t
 
 /* Writes the shortest octets of the number of which the octets of the text, all of them, are the decimal text as
  * asn1v_integer_text writes it, to the front of the room, and leaves the octets after them. text_count / 2 + 1
- * octets are always enough. A count that is enough is told also where the answer is ASN1V_ROOM: that of the octets,
+ * octets are always enough. A count that is enough is returned also where the answer is ASN1V_ROOM: that of the octets,
  * at most 17, where the number has 128 bits, with a sign or without; and otherwise text_count / 2 + 1. ASN1V_DECIMAL
  * for any other text: so for a plus sign, a zero before other digits, and -0. The time grows as the square of the
  * length: the octets are gone over once for each sixteen digits. So bound the length of what others send. */
@@ -303,28 +304,28 @@ asn1v_code asn1v_oid_check(const uint8_t *octets, size_t octet_count);
 ASN1V_NODISCARD
 asn1v_code asn1v_oid_check_arcs(const uint32_t *arcs, size_t arc_count);
 
-/* Writes the contents of the arcs to the front of the room, and leaves the octets after them; five octets for each
- * arc are always enough. How many octets they are is told also where the answer is ASN1V_ROOM. ASN1V_ARCS where they
- * are no identifier's, ASN1V_ARC_COUNT for one arc, otherwise ASN1V_TOO_MANY where the contents have more octets
- * than SIZE_MAX, otherwise ASN1V_ROOM where they are longer than the room. */
+/* Writes the contents of the arcs to the front of the room, and leaves the octets after them; five octets for each arc
+ * are always enough. How many octets they are is returned also where the answer is ASN1V_ROOM. ASN1V_ARCS where they
+ * are no identifier's, ASN1V_ARC_COUNT for one arc, otherwise ASN1V_TOO_MANY where the contents have more octets than
+ * SIZE_MAX, otherwise ASN1V_ROOM where they are longer than the room. */
 ASN1V_NODISCARD
 asn1v_code asn1v_oid_contents(const uint32_t *arcs, size_t arc_count, uint8_t *room, size_t room_count, size_t *count);
 
 /* Writes the arcs of which the octets are the contents to the front of the room; one arc more than there are octets is
- * always enough. How many arcs there are is told also where the answer is ASN1V_ROOM, and then the room is unchanged.
- * ASN1V_MALFORMED and ASN1V_ARC_TOO_LARGE as asn1v_oid_check says. */
+ * always enough. How many arcs there are is returned also where the answer is ASN1V_ROOM, and then the room is
+ * unchanged. ASN1V_MALFORMED and ASN1V_ARC_TOO_LARGE as asn1v_oid_check says. */
 ASN1V_NODISCARD
 asn1v_code asn1v_oid_arcs(const uint8_t *octets, size_t octet_count, uint32_t *room, size_t room_count, size_t *count);
 
 /* Writes the dotted text of the arcs, their decimals joined by full stops, to the front of the room, and leaves the
- * octets after it; no zero ends it, and eleven octets for each arc are always enough. How many octets it has is told
- * also where the answer is ASN1V_ROOM. ASN1V_ARCS where they are no identifier's; ASN1V_TOO_MANY where the text would
- * have more than SIZE_MAX octets. */
+ * octets after it; no zero ends it, and eleven octets for each arc are always enough. How many octets it has is
+ * returned also where the answer is ASN1V_ROOM. ASN1V_ARCS where they are no identifier's; ASN1V_TOO_MANY where the
+ * text would have more than SIZE_MAX octets. */
 ASN1V_NODISCARD
 asn1v_code asn1v_oid_text(const uint32_t *arcs, size_t arc_count, uint8_t *room, size_t room_count, size_t *count);
 
 /* Writes the arcs of which the octets are the dotted text to the front of the room, and leaves the numbers after them;
- * half as many as there are octets, and one more, are always enough. How many arcs there are is told also where the
+ * half as many as there are octets, and one more, are always enough. How many arcs there are is returned also where the
  * answer is ASN1V_ROOM. ASN1V_TEXT for octets that are the dotted text of no identifier whose arcs all fit 32 bits. */
 ASN1V_NODISCARD
 asn1v_code asn1v_oid_from_text(const uint8_t *text, size_t text_count, uint32_t *room, size_t room_count,
@@ -334,7 +335,8 @@ asn1v_code asn1v_oid_from_text(const uint8_t *text, size_t text_count, uint32_t 
 
 /* Looks for the first octets that are no character of the string: one octet a character, two in BMPString, most
  * significant first. Where there is one, the answer is ASN1V_CHARACTER, and its place, counted in characters from 0,
- * and the character are told. ASN1V_KIND for an unknown kind; ASN1V_ODD for an odd number of octets of a BMPString. */
+ * and the character are returned. ASN1V_KIND for an unknown kind; ASN1V_ODD for an odd number of octets of a
+ * BMPString. */
 ASN1V_NODISCARD
 asn1v_code asn1v_string_check(asn1v_kind kind, const uint8_t *octets, size_t octet_count, size_t *place,
                               uint32_t *character);
@@ -345,10 +347,10 @@ ASN1V_NODISCARD
 asn1v_code asn1v_string_count(asn1v_kind kind, const uint8_t *octets, size_t octet_count, size_t *count);
 
 /* Writes the characters of a string's octets in UTF-8 to the front of the room, and leaves the octets after them.
- * How many octets they are, at most three for each character, is told also where the answer is ASN1V_ROOM.
+ * How many octets they are, at most three for each character, is returned also where the answer is ASN1V_ROOM.
  * ASN1V_KIND for an unknown kind; otherwise ASN1V_NO_UNICODE for a GeneralString, a GraphicString and a
  * TeletexString; otherwise ASN1V_ODD for an odd number of octets of a BMPString. Otherwise the first invalid
- * character is told, and its index, counted in characters from 0: ASN1V_CHARACTER where it is not in the set,
+ * character is returned, and its index, counted in characters from 0: ASN1V_CHARACTER where it is not in the set,
  * ASN1V_SURROGATE where it is in the set and UTF-8 has no octets for it. Otherwise ASN1V_TOO_MANY where the count
  * exceeds SIZE_MAX. */
 ASN1V_NODISCARD
@@ -356,10 +358,10 @@ asn1v_code asn1v_string_to_utf8(asn1v_kind kind, const uint8_t *octets, size_t o
                                 size_t room_count, size_t *count, size_t *place, uint32_t *character);
 
 /* Writes the octets of the string that has the characters of a text in UTF-8 to the front of the room, and leaves
- * the octets after them. How many octets they are is told also where the answer is ASN1V_ROOM: at most as many as
+ * the octets after them. How many octets they are is returned also where the answer is ASN1V_ROOM: at most as many as
  * the text has, and for a BMPString twice as many. ASN1V_KIND for an unknown kind; otherwise ASN1V_NO_UNICODE as of
  * asn1v_string_to_utf8; otherwise ASN1V_NOT_UTF8, and the place is how many octets the longest front of the text has
- * that is UTF-8; otherwise ASN1V_CHARACTER for the first character that is not in the set, which is told, and its
+ * that is UTF-8; otherwise ASN1V_CHARACTER for the first character that is not in the set, which is returned, and its
  * index, counted in characters from 0; otherwise ASN1V_TOO_MANY where the count exceeds SIZE_MAX. */
 ASN1V_NODISCARD
 asn1v_code asn1v_string_from_utf8(asn1v_kind kind, const uint8_t *text, size_t text_count, uint8_t *room,

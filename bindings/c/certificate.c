@@ -5,7 +5,7 @@
  *        certificate many <CERTIFICATES
  *
  * With `many` each certificate is after its length in four octets, the highest first, and a line `end` after the
- * lines of each. Octets that are rejected are told in one line, with the code. The octets of a certificate lie before
+ * lines of each. Octets that are rejected have one line, with the code. The octets of a certificate lie before
  * a page that may not be read, so that a read after them ends the program. */
 #define _DEFAULT_SOURCE
 #include "asn1_values.h"
@@ -127,7 +127,7 @@ static void print_text(const uint8_t *text, size_t count)
     }
 }
 
-/* Octets that are no text that could be told in Unicode. */
+/* Octets that are no text of Unicode. */
 static void print_octets(const uint8_t *octets, size_t count)
 {
     putchar('#');

@@ -15,7 +15,7 @@
 #include <stdlib.h>
 #include <string.h>
 
-/* In place of a code of asn1_values.h: the octets that were written are not those that were read. */
+/* Instead of a code of asn1_values.h: the octets that were written are not those that were read. */
 #define OTHER_OCTETS UINT32_C(102)
 
 /* Elements within elements, to this depth; the contents of deeper ones are octets. */

@@ -67,7 +67,7 @@ static void integers(void)
     size_t count = 0;
     expect("128 has two octets", asn1v_integer_from_i64(128, room, sizeof room, &count) == ASN1V_DONE && count == 2 &&
                                      room[0] == 0x00 && room[1] == 0x80);
-    expect("they do not fit one, and the count is told",
+    expect("they do not fit one, and the count is returned",
            asn1v_integer_from_i64(128, room, 1, &count) == ASN1V_ROOM && count == 2);
 
     int64_t number = 0;
@@ -170,7 +170,7 @@ static void elements(void)
                            asn1v_der_bit_string(octets + inner.first, inner.length, &count) == ASN1V_DONE &&
                            count == 4);
     expect("and none after it", asn1v_der_next(octets, outer.end, inner.end, &inner) == ASN1V_SHORT);
-    expect("which is told apart from a place past the end",
+    expect("which differs from an index past the end",
            asn1v_der_next(octets, outer.end, outer.end + 1, &inner) == ASN1V_OUTSIDE && inner.number == 3);
     expect("contents that are cut", asn1v_der_next(octets, 213, 0, &outer) == ASN1V_SHORT && outer.end == 214);
     const struct {
@@ -240,10 +240,10 @@ static void identifiers(void)
     expect("they are the contents of 2.100.3", asn1v_oid_arcs(room, count, read, 4, &arc_count) == ASN1V_DONE &&
                                                    arc_count == 3 && memcmp(read, arcs, sizeof arcs) == 0);
     arc_count = 0;
-    expect("for which two arcs are no room, and three are told",
+    expect("for which two arcs are no room, and three are returned",
            asn1v_oid_arcs(room, count, read, 2, &arc_count) == ASN1V_ROOM && arc_count == 3);
     const uint32_t none[2] = {1, 40};
-    expect("two octets are no room for three, which are told",
+    expect("two octets are no room for three, which are returned",
            asn1v_oid_contents(arcs, 3, room, 2, &count) == ASN1V_ROOM && count == 3);
     expect("1.40 is no identifier", asn1v_oid_contents(none, 2, room, sizeof room, &count) == ASN1V_ARCS);
     expect("one arc has no contents", asn1v_oid_contents(arcs, 1, room, sizeof room, &count) == ASN1V_ARC_COUNT);
@@ -267,10 +267,10 @@ static void dotted_text(void)
     size_t arc_count = 0;
     expect("which has its arcs", asn1v_oid_from_text(text, count, read, 4, &arc_count) == ASN1V_DONE &&
                                      arc_count == 4 && memcmp(read, arcs, sizeof arcs) == 0);
-    expect("three are no room, and four are told",
+    expect("three are no room, and four are returned",
            asn1v_oid_from_text(text, count, read, 3, &arc_count) == ASN1V_ROOM && arc_count == 4);
     const uint32_t zeros[2] = {0, 0};
-    expect("two octets are no room, and three are told",
+    expect("two octets are no room, and three are returned",
            asn1v_oid_text(zeros, 2, text, 2, &count) == ASN1V_ROOM && count == 3);
     const uint32_t largest[2] = {2, UINT32_MAX};
     expect("the largest arc has ten digits", asn1v_oid_text(largest, 2, text, sizeof text, &count) == ASN1V_DONE &&

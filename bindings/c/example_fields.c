@@ -18,7 +18,7 @@ static void fields(void)
     asn1v_code code =
         asn1v_read_fields(message, sizeof message, 1, NO_ALPHABETS, 0, shapes, 3, read, 3, &end, &refusal);
     expect("three fields are read at bit 1", code == ASN1V_DONE && end == 25);
-    expect("the number is told", read[0].low == 5 && read[0].high == 0 && read[0].first == 1 && read[0].length == 3);
+    expect("the number is returned", read[0].low == 5 && read[0].high == 0 && read[0].first == 1 && read[0].length == 3);
     expect("and where the octets lie", read[1].first == 4 && read[1].length == 16);
     uint64_t octets = 0;
     expect("which are A5BC",

@@ -40,7 +40,7 @@ typedef struct {
 } record;
 
 /* A VisibleString: its permitted characters, all where there is no list of them, how many it may have, and in how many
- * bits stands by how many they pass the least. */
+ * bits their number less the least one is. */
 typedef struct {
     const char *permitted;
     size_t least;
@@ -126,7 +126,7 @@ static void write_name(message *m, const name *value, const char *what)
     write_string(m, &NAME_STRING, value->family, what);
 }
 
-/* Behind an octet that counts its octets: a number below zero has ones above. */
+/* After an octet that counts its octets: a number below zero has ones above. */
 static void write_integer(message *m, int64_t number, const char *what)
 {
     const asn1v_shape shape = {ASN1V_COUNTED_INTEGER, 0};

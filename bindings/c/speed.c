@@ -2,7 +2,7 @@
  *
  *     cc -std=c11 -O2 bindings/c/speed.c crates/asn1_c/out/libasn1_c.a -o speed && ./speed
  *
- * Beside the calls for numbers stands the same work in C, in the loop itself: what is left is what a call costs
+ * Beside the calls for numbers is the same work in C, in the loop itself: what is left is what a call costs
  * beyond it. */
 #define _DEFAULT_SOURCE
 #include "asn1_values.h"

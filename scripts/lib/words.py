@@ -11,7 +11,8 @@ WORDS = {
     r"asks? for (?:no )?memory": "allocate",
     r"behind": "after",
     r"in front": "before",
-    r"stands? (?:in|on)": "is in, depends on",
+    r"stands?": "is, is in, depends on",
+    r"(?:is|are|be) wanting": "is missing, out of memory",
     r"in (?:the )?place of": "instead of",
     r"goes? past|gone past": "skip",
     r"pass(?:es|ed)? on": "re-export",
@@ -49,5 +50,5 @@ def found_in(prose):
     """Each of the words in prose: where it begins, the word, and what the field uses."""
     bare = re.sub(CODE, lambda it: " " * len(it[0]), prose)
     for word, better in WORDS.items():
-        for found in re.finditer(rf"(?<![\w-])(?:{word})(?![\w-])", bare):
+        for found in re.finditer(rf"(?<![\w-])(?:{word})(?![\w-])", bare, re.IGNORECASE):
             yield found.start(), found[0], better

@@ -16,7 +16,7 @@ abbrev pub has_repeat : List ℕ → Bool
 has_repeat [] = false
 has_repeat (x ∷ xs) = has_character xs x || has_repeat xs
 
--- what a list has stands at a place
+-- what a list has is at an index
 has_place : (xs : List ℕ) (c : ℕ) → has_character xs c ≡ true → (k : ℕ) × (k < length xs) × (get_or xs k 0 ≡ c)
 has_place [] c has = cc
 has_place (x ∷ xs) c has = elim (or_cases (eqb x c) (has_character xs c) has) [

@@ -45,7 +45,7 @@ range_at first count k lt =
 abbrev pub distance : ℕ → ℕ → ℕ
 distance first c = (c + (2 ^ 32 - first)) % 2 ^ 32
 
--- a character that is less far from the first than there are stands there
+-- a character that is less far from the first than there are is at that index
 pub run_place_at : (first count c : ℕ) → 0 < count → first + count < 2 ^ 32 → c < 2 ^ 32 → distance first c < count
     → slice_get (range_with_len first count) (distance first c) ≡ Some c
 run_place_at first count c some room small near = range_at first count (distance first c) near ∙ ap Some (omega arith)

@@ -105,7 +105,7 @@ impl Row for Numbers {
 pub struct Appended {}
 
 impl Appended {
-    /// Behind three bits.
+    /// Returns the row after three bits.
     pub fn new() -> Appended {
         Appended {}
     }

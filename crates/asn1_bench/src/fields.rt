@@ -23,7 +23,7 @@ fn write_behind(alloc: Global, fields: &[Field<'_, '_>]) -> Result<BitBuffer, Al
     }
 }
 
-/// How many fields of these shapes stand after three bits, or 0 where they are not read.
+/// Returns how many fields of these shapes follow three bits, or 0 if they are not read.
 fn read_behind(alloc: Global, buffer: &BitBuffer, shapes: &[Shape<'_>]) -> u64 {
     let mut reader = BitReader::new(buffer.as_bitstr());
     let _ = reader.split(3);

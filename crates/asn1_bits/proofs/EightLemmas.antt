@@ -67,7 +67,7 @@ loaded_native octets eight first n small h e is =
     ∙ omega (arith, length-take 8 (drop first octets), length-drop first octets) in
     le_bytes_8 eight n len (eight-small octets eight first small e) is ∙ e
 
--- what stands before the bits that are ORed in stays
+-- what precedes the bits that are ORed in is unchanged
 ored-behind : (front list src : List Bool) (place : ℕ) → place ≡ length front
     → ored (front ++ list) place src ≡ front ++ ored list 0 src
 ored-behind front list src place e =

@@ -157,7 +157,7 @@ below_word n width rest h fits =
     let top : 2 ^ (width + rest) ≤ 2 ^ 64 = pow-le-pow_right {n = 2} (omega arith) {i = width + rest} {j = 64} fits in
     omega (arith, shl_below n width rest h, top)
 
--- a word in which the lowest digits of another stand from one of its digits on
+-- a word that has the lowest digits of another from one of its digits on
 pub word-replaced : (old word shift width there moved : ℕ) → shift + width ≤ 64 → old < 2 ^ 64
     → there ≡ old * 2 ^ shift % 2 ^ 64 / 2 ^ (64 - width) * 2 ^ (64 - shift - width) % 2 ^ 64
     → moved ≡ word * 2 ^ (64 - width) % 2 ^ 64 / 2 ^ shift

@@ -265,7 +265,7 @@ moved-past n width shift h some most =
           ∙ ap (λ (m : ℕ). m * 2 ^ (64 - width) % 2 ^ 64 / 2 ^ shift) (div-one n))
     ]
 
--- the digits of a number, shifted to where they stand, where m octets hold them
+-- the digits of a number, shifted to where they are, where m octets hold them
 pub or-near : (m : ℕ) (old new : List Bool) (place n width : ℕ) → 0 < width → place % 8 + width ≤ 8 * m
     → 8 * (place / 8) + 8 * m ≤ length old
     → new ≡ ored old (8 * (place / 8)) (digits (n * 2 ^ (8 * m - width) % 2 ^ (8 * m) / 2 ^ (place % 8)) (8 * m))

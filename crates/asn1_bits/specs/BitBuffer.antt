@@ -6,7 +6,7 @@ use Rattle.asn1_bits.specs.Bits.{bits, octets_for, IsZeroFrom}
 unfoldable pub bits_shown : List ℕ → ℕ → List Bool
 bits_shown octets len = take len (bits octets)
 
--- The octets hold len bits, and their other bits are zero. At most 39 octets stand from the first
+-- The octets hold len bits, and their other bits are zero. There are at most 39 octets from the first
 -- on that len bits do not fill.
 pub record IsFilled (octets : List ℕ) (len : ℕ) : Type 0 where
   pub count : octets_for len ≤ length octets

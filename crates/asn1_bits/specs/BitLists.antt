@@ -1,5 +1,5 @@
 -- Equality, order and hash of lists of bits: false is below true, and a front is below what it
--- begins. The laws that `==`, order and hash of a type owe stand here once, for what shows its
+-- begins. The laws that `==`, order and hash of a type owe are here once, for what shows its
 -- value as a list of bits.
 use Rattle.std.specs.Prelude.{◌≡◌, ℕ, ◌*◌, Bool, true, false, List, ◌++◌, length, take, drop, map}
 use Rattle.std.proofs.Common.{refl, Ordering}

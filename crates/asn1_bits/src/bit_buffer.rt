@@ -254,7 +254,7 @@ impl BitBuffer {
         ensures free { AddsNoOctet (length self.old) (8 * length src.now) → IsOk result }
     {
         if self.len % 8 == 0 {
-            // Behind whole octets no zeros are written first.
+            // After whole octets no zeros are written first.
             self.bytes.truncate(self.len / 8);
             self.bytes.extend_from_slice(src)?;
             self.len += 8 * src.len();

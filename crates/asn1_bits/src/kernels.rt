@@ -40,7 +40,7 @@ pub fn or_bits(dst: &mut [u8], position: usize, src: &[u8], count: usize, turns:
 ///
 /// The bits must lie within `dst`, and the bit after them must fit `usize`.
 // The counted work is `or_view`, whose clause `each_turn_places` ties each store to a turn. It
-// can't see a walk that only reads, nor a store that would stand here, before the target is made:
+// can't see a walk that only reads, nor a store that would be here, before the target is made:
 // so this is one line, as is `put_bitslice`.
 #[inline(always)]
 pub fn write_bitslice(dst: &mut [u8], position: usize, src: BitStr<'_>, turns: &mut Turns)

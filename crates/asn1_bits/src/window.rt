@@ -74,7 +74,7 @@ pub(crate) fn put_few(dst: &mut [u8], position: usize, word: u64, width: usize)
 
 /// Writes a number of up to 128 digits over zeros from bit `position` on, and ticks once for each
 /// 64 of them.
-// One line, since the clause `each_turn_places` of `put_in` can't see a store that would stand
+// One line, since the clause `each_turn_places` of `put_in` can't see a store that would be
 // here.
 #[inline(always)]
 pub(crate) fn put_digits(

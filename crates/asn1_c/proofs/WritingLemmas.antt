@@ -15,7 +15,7 @@ use Rattle.asn1_c.specs.Fields.{shape_named}
 use Rattle.asn1_c.specs.Writing.{IsNamed, AreNamed, IsNamedAs, IsWrong, IsUnnamed, IsUnnamedAt}
 use Rattle.asn1_c.proofs.NoneLemmas.{same_length, wrong_none}
 
--- what stands past the ends of the lists
+-- what is past the ends of the lists
 abbrev pub no_shape : Shape
 no_shape = record { kind = 0; count = 0 }
 

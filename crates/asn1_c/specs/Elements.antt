@@ -21,7 +21,7 @@ class_number Application = 1
 class_number Context = 2
 class_number Private = 3
 
--- the octets from the position up to the element's end are an element, and C is told its identifier and where its contents octets lie
+-- the octets from the position up to the element's end are an element, and C receives its identifier and the index of its contents octets
 pub record IsElementAt (octets : List ℕ) (position : ℕ) (e : Element) : Type 0 where
   pub identifier : Identifier
   pub class : e.class ≡ class_number identifier.tag.class

@@ -37,17 +37,17 @@ signed_of_words high low = cast_signed w128 (number_of_words high low)
 abbrev pub end_of : Field → ℕ
 end_of f = f.first + f.length
 
--- no number is told
+-- no number is returned
 abbrev pub TellsNone : Field → Type 0
 TellsNone f = (f.high ≡ 0) × (f.low ≡ 0)
 
--- the number of up to sixteen octets, which the field has with some bits before, is told
+-- the number of up to sixteen octets, which the field has with some bits before, is returned
 abbrev pub TellsInteger : ℕ → ℤ → Field → Type 0
 TellsInteger lead n f =
     (f.length ≤ lead + 128 → signed_of_words f.high f.low ≡ n) × (lead + 128 < f.length → TellsNone f)
 
--- a number is told by value, an integer where it has at most sixteen octets, a character with its
--- code; of every field it is told where its bits lie
+-- a number is returned by value, an integer where it has at most sixteen octets, a character with its
+-- code; of every field it is returned where its bits are
 abbrev pub Tells : plain.Field → Field → Type 0
 Tells (plain.Number value width) f = number_of_words f.high f.low ≡ value
 Tells (plain.Integer n) f = TellsInteger 0 n f
@@ -55,7 +55,7 @@ Tells (plain.CountedInteger n) f = TellsInteger 8 n f
 Tells (plain.Character alphabet c) f = (f.low ≡ c) × IsCode alphabet c f.high
 Tells field f = TellsNone f
 
--- bits of the octets, from a place on, encode a field of the shape, and C is told it
+-- bits of the octets, from a place on, encode a field of the shape, and C receives it
 pub record IsSpelledAt (octets : List ℕ) (from : ℕ) (shape : plain.Shape) (f : Field) : Type 0 where
   pub field : plain.Field
   pub of_shape : IsOfShape field shape

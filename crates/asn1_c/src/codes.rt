@@ -26,7 +26,7 @@ pub const OVERFLOW: u32 = 5;
 /// The octets are the contents of no identifier, however large its arcs.
 pub const MALFORMED: u32 = 6;
 
-/// The octets are the contents of an identifier, one of whose arcs passes 32 bits.
+/// The octets are the contents of an identifier, one of whose arcs exceeds 32 bits.
 pub const ARC_TOO_LARGE: u32 = 7;
 
 /// The arcs are not those of an identifier (X.660).

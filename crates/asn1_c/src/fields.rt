@@ -272,7 +272,7 @@ pub extern "C" fn asn1v_read_fields(
     ensures enough { result ≢ 23 → result ≢ 1 → result ≢ 3
         → length shapes.now ≤ length fields.old }
     ensures same_length { length fields.new ≡ length fields.old }
-    // Behind what was read nothing changes.
+    // After what was read nothing changes.
     ensures rest { result ≡ 0
         → drop (length shapes.now) fields.new ≡ drop (length shapes.now) fields.old }
     ensures kept_fields { result ≢ 0 → result ≢ 1 → result ≢ 3 → result ≢ 23

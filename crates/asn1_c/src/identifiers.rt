@@ -52,7 +52,7 @@ pub extern "C" fn asn1v_oid_check_arcs(arcs: &[u32]) -> u32
 }
 
 /// Writes the contents of the arcs into the room, of which five octets an arc are always enough.
-/// How many octets they are is told also where the room is too small.
+/// How many octets they are is returned also where the room is too small.
 #[unsafe(no_mangle)]
 #[tactic(auto, using(asn1_oid::specs::Laws::WritingLaws::contents_only))]
 pub extern "C" fn asn1v_oid_contents(arcs: &[u32], room: &mut [u8], count: &mut usize) -> u32

@@ -14,7 +14,7 @@ use asn1_values::{IntegerType, signed_value, without_redundant_sign_octets};
 use std::cmp::Ordering;
 
 /// Writes the shortest octets of the number into the room, of which eight are always enough. Their
-/// number is told also where the room is too small.
+/// number is returned also where the room is too small.
 #[unsafe(no_mangle)]
 pub extern "C" fn asn1v_integer_from_i64(number: i64, room: &mut [u8], count: &mut usize) -> u32
     ensures written { result ≡ 0 → IsShortest number (take count.new room.new) }

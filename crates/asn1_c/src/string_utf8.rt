@@ -35,7 +35,7 @@ pub extern "C" fn asn1v_string_count(kind: u32, octets: &[u8], count: &mut usize
 }
 
 /// Writes the characters of a string in UTF-8 to the front of the room, of which three octets for
-/// each character are always enough. How many octets they are is told also where the room is too
+/// each character are always enough. How many octets they are is returned also where the room is too
 /// small. The index of the first character that is rejected is counted in characters.
 #[unsafe(no_mangle)]
 pub extern "C" fn asn1v_string_to_utf8(

@@ -58,7 +58,7 @@ impl Decimal {
 }
 
 /// Writes the dotted text of the arcs to the front of the room, of which eleven octets for each arc
-/// are always enough. How many octets the text has is told also where the room is too small.
+/// are always enough. How many octets the text has is returned also where the room is too small.
 #[unsafe(no_mangle)]
 pub extern "C" fn asn1v_oid_text(arcs: &[u32], room: &mut [u8], count: &mut usize) -> u32
     ensures written { result ≡ 0 → take count.new room.new ≡ dotted arcs.now }
@@ -129,7 +129,7 @@ pub(crate) fn put_at(octets: &[u8], room: &mut [u8], at: usize) -> usize
 }
 
 /// Writes the arcs of which the octets are the dotted text to the front of the room: half as many
-/// as there are octets, and one more, are always enough. How many arcs there are is told also where
+/// as there are octets, and one more, are always enough. How many arcs there are is returned also where
 /// the room is too small.
 #[unsafe(no_mangle)]
 pub extern "C" fn asn1v_oid_from_text(text: &[u8], room: &mut [u32], count: &mut usize) -> u32

@@ -13,7 +13,7 @@ use asn1_values::{
     IntegerBytes, IntegerType, signed_value, unsigned_value, without_redundant_sign_octets,
 };
 
-/// Writes octets to the front of the room, if they fit. Their number is told in any case.
+/// Writes octets to the front of the room, if they fit. Their number is returned in any case.
 fn put_octets(octets: &IntegerBytes<'_>, room: &mut [u8], count: &mut usize) -> u32
     ensures written { result ≡ 0 → take count.new room.new ≡ octets.now }
     ensures count { count.new ≡ length octets.now }
@@ -53,7 +53,7 @@ pub(crate) fn put_unsigned(number: u128, room: &mut [u8], count: &mut usize) -> 
 }
 
 /// Writes the shortest octets of the number into the room, of which nine are always enough. Their
-/// number is told also where the room is too small.
+/// number is returned also where the room is too small.
 #[unsafe(no_mangle)]
 pub extern "C" fn asn1v_integer_from_u64(number: u64, room: &mut [u8], count: &mut usize) -> u32
     ensures written { result ≡ 0 → IsShortest (pos number) (take count.new room.new) }
@@ -96,7 +96,7 @@ pub extern "C" fn asn1v_integer_to_u64(octets: &[u8], number: &mut u64) -> u32
 }
 
 /// Writes the shortest octets of a number of 128 bits in two's complement into the room, of which
-/// sixteen are always enough. Their number is told also where the room is too small.
+/// sixteen are always enough. Their number is returned also where the room is too small.
 #[unsafe(no_mangle)]
 pub extern "C" fn asn1v_integer_from_i128(number: &Words, room: &mut [u8], count: &mut usize) -> u32
     ensures written { result ≡ 0
@@ -135,7 +135,7 @@ pub extern "C" fn asn1v_integer_to_i128(octets: &[u8], number: &mut Words) -> u3
 }
 
 /// Writes the shortest octets of a number of 128 bits without a sign into the room, of which
-/// seventeen are always enough. Their number is told also where the room is too small.
+/// seventeen are always enough. Their number is returned also where the room is too small.
 #[unsafe(no_mangle)]
 pub extern "C" fn asn1v_integer_from_u128(number: &Words, room: &mut [u8], count: &mut usize) -> u32
     ensures written { result ≡ 0 → IsShortest

@@ -60,7 +60,7 @@ pub base_is : (name : CharacterSetName) → base_set name ≡ flat_map character
 unfolding base_set
 base_is name = refl
 
--- the digits of `NumericString` stand at the places from 1 to 10, after the space
+-- the digits of `NumericString` are at the indices from 1 to 10, after the space
 pub digit_at : (place : ℕ) → 1 ≤ place → place ≤ 10 → slice_get (base_set Numeric) place ≡ Some (47 + place)
 digit_at place low high =
     let j = place - 1 in

@@ -33,7 +33,7 @@ pub record Gathers (octets : List ℕ) (place i told cap : ℕ) : Type 0 where
   pub since : place ≤ i
   pub read : numbers_of (drop place octets) ≡ numbers_from (ltb place i) number (drop i octets)
 
--- nothing is gathered where the first octet stands
+-- nothing is gathered where the first octet is
 gathers_none : (octets : List ℕ) (place cap : ℕ) → Gathers octets place place 0 cap
 gathers_none octets place cap = record {
   number = 0;
@@ -73,7 +73,7 @@ stands octets place i told octet cap some g lt is small = record {
       ∙ ends (ltb place i) g.number octet (drop (i + 1) octets) small;
 }
 
--- the first octet, which is the last, or stands before others
+-- the first octet, which is the last, or precedes others
 pub one_stands : (octets : List ℕ) (place octet : ℕ) → place < length octets → octet ≡ get_or octets place 0
     → octet < 128 → Stands octets place octet (place + 1) 4294967376
 one_stands octets place octet lt is small =

@@ -161,7 +161,7 @@ optional fault node A F at = record {
       ⊎ (¬ (IsAbsent tape) × PairMisfit (A at) (λ n. (F n).misfit) at tape e);
 }
 
--- ---- only what passes a test
+-- ---- only what meets a test
 
 -- the parts tell a value that fails the test
 pub record AreFailing {X : Type 0} (test : X → Bool) (P : X → Parts → List Bool → Type 0) (tape : Parts) : Type 0 where
@@ -173,7 +173,7 @@ pub record AreFailing {X : Type 0} (test : X → Bool) (P : X → Parts → List
   pub are : tape ≡ parts ++ rest
   pub fails : test value ≡ false
 
--- what follows a header whose value passes the test
+-- what follows a header whose value meets the test
 abbrev pub only_where : {K X : Type 0} → (X → Bool) → K → MisfitKind → ℕ → (ℕ → AfterHeader K X) → ℕ → AfterHeader K X
 only_where test fault misfit node B at = record {
   after = λ x. cases (test x ≡ true) ((B at).after x) (test x ≡ false) (invalid fault node);

@@ -163,7 +163,7 @@ fn fragments_at(alloc: Global, octets: &[u8], fragments: Fragments) -> Result<St
     Ok(text)
 }
 
-/// Returns bits by digits of `width` bits each after a name; `-` stands for none.
+/// Returns bits by digits of `width` bits each after a name; `-` means none.
 fn digits_at(
     alloc: Global,
     name: &str,

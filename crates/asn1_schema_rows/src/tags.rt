@@ -147,7 +147,7 @@ impl TagRows {
         Ok(())
     }
 
-    /// Gives the type at a node a tag of the context.
+    /// Sets the tag of the type at a node to one of the context.
     fn tag_type(&mut self, node: usize, number: u64) -> Result<Rows, AllocError> {
         let from = self.tags.len();
         self.tags.push(Tag {

@@ -40,7 +40,7 @@ pub fn run<A: Answers, R: BufRead, W: Write>(
     Ok(u8::from(agreeing != rows))
 }
 
-/// What is wrong with a row, if it does not agree.
+/// Returns the fault of a row, if it does not agree.
 fn objection<A: Answers>(
     alloc: Global,
     answers: &A,
@@ -87,7 +87,7 @@ fn counted<'a>(alloc: Global, word: &'a str) -> Result<(&'a str, u32), RowError>
     Ok((word, 1))
 }
 
-/// What is wrong with an answer, if another one is wanted.
+/// Returns the fault of an answer, if another one is wanted.
 fn difference(alloc: Global, answer: &str, wanted: &str) -> Result<Option<String>, RowError> {
     let mut spelled = String::new(alloc);
     let words = words_of(alloc, wanted)?;

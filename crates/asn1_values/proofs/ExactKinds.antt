@@ -6,7 +6,7 @@ use Rattle.asn1_values.specs.Fields.{Field, Shape, IsSpelledBy, IsOfShape}
 use Rattle.asn1_values.specs.Wrong.{Fault, Short, IsShortBy, IsReason}
 use Rattle.asn1_values.specs.Walk.{with_rest, cut_at}
 
--- the field stands at the front of the list, and the rest follows
+-- the field is first in the list, and the rest follows
 pub record Takes (shape : Shape) (list : List Bool) (field : Field) (rest : List Bool) : Type 0 where
   pub front : List Bool
   pub of_shape : IsOfShape field shape

@@ -53,7 +53,7 @@ slice_get_take [] (suc i) j lt = refl
 slice_get_take (x ∷ xs) (suc i) zero lt = refl
 slice_get_take (x ∷ xs) (suc i) (suc j) lt = slice_get_take xs i j (omega arith)
 
--- at each place of a list stands an element
+-- each index of a list has an element
 pub some_at : {X : Type 0} (xs : List X) (i : ℕ) → i < length xs → (x : X) × (slice_get xs i ≡ Some x)
 some_at [] i lt = absurd (omega arith)
 some_at (x ∷ xs) zero lt = (x, refl)

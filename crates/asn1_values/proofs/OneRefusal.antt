@@ -135,7 +135,7 @@ CanBegin-front list (shape ∷ shapes) (suc k) (field ∷ fields, rest, b) =
     CanBegin-cons list shape field s.middle (take k shapes) s.first
     (CanBegin-front s.middle shapes k (fields, rest, s.others))
 
--- some fields stand before the first fault
+-- some fields precede the first fault
 before_fault : (list : List Bool) (shapes : List Shape) (i : ℕ)
     → ((j : ℕ) → j < i → CanBegin list (take (j + 1) shapes)) → CanBegin list (take i shapes)
 before_fault list shapes zero least = ([], list, Begins-none list)

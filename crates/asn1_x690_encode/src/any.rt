@@ -14,7 +14,7 @@ use asn1_x690_fields::{FoundIdentifier, State, next_header};
 use asn1_x690_writers::put_span;
 use asn1_x691_writers::{Writer, clip, leave, reject};
 
-/// As which part any element stands.
+/// The part that has an element of any type.
 #[derive(Clone, Copy, Debug)]
 pub(crate) enum AnyPart {
     /// A value of ANY.

@@ -111,7 +111,7 @@ fn printed_fields(
         (λ answer. IsOnly (IsPrinted (plain_fields fields.now) left) (answer_in answer)) }
 {
     let mut again = BitBuffer::new(alloc);
-    // The fields that were read are no longer than their input, so only memory can be wanting.
+    // The fields that were read are no longer than their input, so the only error is out of memory.
     let Ok(()) = write_fields(&mut again, fields) else {
         return Err(AllocError);
     };

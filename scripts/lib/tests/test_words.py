@@ -9,9 +9,12 @@ def found(path, text):
 
 class Words(unittest.TestCase):
     def test_words_of_comments_are_found(self):
-        self.assertEqual(found("a.rt", "    /// It stands in\nlet behind = 1;\n//! or else it has to\n"), ["stands in", "has to", "else"])
+        self.assertEqual(found("a.rt", "    /// It stands in\nlet behind = 1;\n//! or else it has to\n"), ["stands", "has to", "else"])
         self.assertEqual(found("a.antt", "-- the bits behind\nbehind : ℕ\n"), ["behind"])
         self.assertEqual(found("a.h", "/* What is refused.\n * And what *refusal says, refusal->code. */\nint behind;\n"), ["refused"])
+
+    def test_words_that_begin_a_sentence_are_found(self):
+        self.assertEqual(found("a.rt", "/// Goes past a number.\n// Behind it no memory is wanting.\n"), ["Behind", "is wanting", "Goes past"])
 
     def test_names_of_mutation_tests_are_prose(self):
         text = "reads_the_octet_behind\nsrc/a.rt, refuses\n- behind\n+ in front\n"

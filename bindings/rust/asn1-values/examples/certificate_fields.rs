@@ -29,7 +29,7 @@ impl Shapes {
         self.all.push(Shape::Octets { count });
     }
 
-    /// Adds the shapes of a primitive element whose contents stand after so many octets.
+    /// Adds the shapes of a primitive element whose contents follow so many octets.
     fn primitive(&mut self, front: usize, element: &Element<'_>) {
         let count = element.contents.len();
         let number = match element.class {

@@ -46,8 +46,8 @@ impl Name {
     }
 }
 
-/// A `VisibleString`: its permitted characters, if not all, how many it may have, and in how many bits stands by how
-/// many they pass the least.
+/// A `VisibleString`: its permitted characters, if not all, how many it may have, and in how many bits their
+/// number less the least one is.
 struct StringType {
     permitted: Option<Vec<u32>>,
     least: usize,

@@ -52,7 +52,7 @@ pub enum IntegerError {
 pub enum IdentifierError {
     /// The octets are the contents of no identifier, however large its arcs.
     Malformed,
-    /// The octets are the contents of an identifier, one of whose arcs passes 32 bits.
+    /// The octets are the contents of an identifier, one of whose arcs exceeds 32 bits.
     ArcTooLarge,
     /// The arcs are not those of an identifier (X.660).
     Arcs,
@@ -178,7 +178,7 @@ impl fmt::Display for AlphabetError {
     }
 }
 
-/// What is wrong with an element of DER, or with the contents of one (X.690).
+/// A fault of an element of DER, or of the contents of one (X.690).
 ///
 /// ```
 /// assert_eq!(asn1_values::DerError::Indefinite.to_string(), "an indefinite length");

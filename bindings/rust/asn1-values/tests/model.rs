@@ -270,7 +270,7 @@ fn same(field: &Field<'_, '_>, cut: &[bool]) {
     }
 }
 
-/// The list stands over what was there, and the rest stays, or all of it does.
+/// Returns whether the list replaced what was there and the rest is unchanged, or all of it is.
 fn written_as_the_model(dice: &mut Dice, parts: &[Part], position: usize, room: usize) -> bool {
     let fields: Vec<Field<'_, '_>> = parts.iter().map(Part::field).collect();
     let list: List = parts.iter().flat_map(Part::list).collect();

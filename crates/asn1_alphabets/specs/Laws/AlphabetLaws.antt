@@ -10,7 +10,7 @@ use Rattle.asn1_characters.specs.Sets.{has_character}
 use Rattle.asn1_characters.specs.Laws.SetLaws.{not_above}
 use Rattle.asn1_alphabets.specs.Alphabet.{Alphabet, IsCode, is_indexed}
 
--- what stands at a place is in the set
+-- what is at an index is in the set
 pub stands_in : (set : List ℕ) (k c : ℕ) → slice_get set k ≡ Some c → has_character set c ≡ true
 stands_in set k c place = any_passes_from_place (λ x. eqb x c) set k c place (grind (arith, nat_tests))
 

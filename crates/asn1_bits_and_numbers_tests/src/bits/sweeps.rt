@@ -71,7 +71,7 @@ fn is_right_or(
     None
 }
 
-/// Whether each bit is that of before, or one of the first bits of the source that stands there.
+/// Whether each bit is that of before, or one of the first bits of the source that is there.
 fn is_ored(after: &[u8], before: &[u8], src: &[u8], position: usize, count: usize) -> bool {
     let mut is_right = after.len() == before.len();
     for place in 0..8 * after.len().min(100) {
@@ -133,7 +133,7 @@ fn is_right_number(
     None
 }
 
-/// Whether each bit is that of before, or the digit that stands there.
+/// Whether each bit is that of before, or the digit that is there.
 fn is_overwritten(after: &[u8], before: &[u8], digits: (u128, usize), position: usize) -> bool {
     let mut is_right = after.len() == before.len();
     for place in 0..8 * after.len().min(100) {

@@ -339,7 +339,7 @@ shortest_unsigned_from_first (b ∷ c ∷ bs) h some d = record { octets = h; so
             pow-le-pow_right (omega arith) {i = length other} {j = length (c ∷ bs)} (omega arith) in
             omega (arith, unsigned-cons b (c ∷ bs))
 
--- the shortest octets of a number that is not negative, without a first zero octet that stands
+-- the shortest octets of a number that is not negative, without a first zero octet that is
 -- before others
 pub unsigned_after_zero : (n : ℕ) (o rest : List ℕ) → IsShortest (pos n) o → 2 ≤ length o → get_or o 0 0 ≡ 0
     → rest ≡ drop 1 o → IsShortestUnsigned n rest

@@ -97,7 +97,7 @@ module _ {K X : Type 0} (H : Encoding K X) (width : ℕ) (B : ℕ → AfterHeade
     names = record { covers = header_covers };
   }
 
--- ---- only what passes a test
+-- ---- only what meets a test
 
 true_or_false : (b : Bool) → b ≡ true → b ≡ false → ⊥
 true_or_false b p q = let e : true ≡ false = sym p ∙ q in cc

@@ -49,7 +49,7 @@ fn tell_front(alloc: Global, text: &mut String, octets: &[u8]) -> Option<()>
     None
 }
 
-/// No fields, for which no memory can be wanting.
+/// No fields, which take no memory.
 fn writes_nothing(buffer: &mut BitBuffer) -> Result<(), WriteError>
     ensures fine { IsOk result }
     ensures same { buffer.new ≡ buffer.old }

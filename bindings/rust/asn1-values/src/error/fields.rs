@@ -46,7 +46,7 @@ pub enum ReadError {
         /// Which field.
         field: usize,
     },
-    /// The contents of an identifier, one of whose arcs passes 32 bits.
+    /// The contents of an identifier, one of whose arcs exceeds 32 bits.
     Arc {
         /// Which field.
         field: usize,

@@ -1,4 +1,4 @@
-//! Writing fields: each is one call, and what it writes is told in C's numbers.
+//! Writing fields: each is one call, and what it writes is given in C's numbers.
 
 use super::{Field, Shape};
 use crate::bits::Bits;

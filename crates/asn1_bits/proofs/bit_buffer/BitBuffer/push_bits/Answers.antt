@@ -53,7 +53,7 @@ returns-in_err-resize-clause-free c = λ same.
           absurd (omega (arith, b.bytes.ok.0, rw (← len) at same, c.self.invariant.count, c.capacity-capacity.ensures))
     ]
 
--- octets of zeros after the list change nothing, and eight octets stand from the last one that is begun on
+-- octets of zeros after the list change nothing, and there are eight octets from the last one that is begun on
 ready : (c : After-lowest-number)
     → IsFilled c.if-position-octets.self-inside.bytes.items c.self.inside.len
     × (bits_shown c.if-position-octets.self-inside.bytes.items c.self.inside.len ≡ c.args.self.now)
