@@ -28,7 +28,7 @@ struct Place {
 }
 
 impl Place {
-    /// Returns the place after one part that has no element.
+    /// Returns the position after one part that has no element.
     fn next(self) -> Place {
         Place {
             part: self.part.saturating_add(1),
@@ -114,12 +114,12 @@ impl<'a> Walk<'a> {
         Some((index, contents.get(index)?))
     }
 
-    /// Returns the element that encodes the value at a place. `None` if it is not known.
+    /// Returns the element that encodes the value at a position. `None` if it is not known.
     fn element(&self, node: usize, at: Place) -> Option<Element> {
         element_of(self.schema, self.source.octets, node, at.offset?)
     }
 
-    /// Prints the value at a place. Returns the place after it.
+    /// Prints the value at a position. Returns the position after it.
     #[cycle(walking)]
     fn value(
         &mut self,

@@ -1,4 +1,4 @@
-//! The kernels: bits of octets read and written at any place.
+//! The kernels: bits of octets read and written at any index.
 //!
 //! `or_above_64`, `or_unaligned`, `copy_octets`, and in other modules `or_aligned` and `or_many_words`, are not
 //! inlined, so that their callers inline only the path for short views. They take the target by value

@@ -1,4 +1,4 @@
-//! Words and numbers that are read from bits at any place of octets.
+//! Words and numbers that are read from bits at any index of octets.
 
 ghost use Rattle.std.specs.Prelude.{◌≡◌, ◌+◌, ◌*◌, ◌<◌, ◌≤◌, ◌++◌, length, take, drop};
 ghost use Rattle.asn1_bits.specs.Bits.{bits, digits, number};

@@ -1,4 +1,4 @@
-//! Words of bits that are placed in a target, at any place of its octets.
+//! Words of bits that are placed in a target, at any index of its octets.
 
 ghost use Rattle.std.specs.Prelude.{◌≡◌, ◌+◌, ◌-◌, ◌*◌, ◌/◌, ◌%◌, ◌^◌, ◌<◌, ◌≤◌, length, take, drop};
 ghost use Rattle.std.specs.Int.{div_ceil};

@@ -68,7 +68,7 @@ pub const NOT_SHORTEST: u32 = 19;
 /// A counted integer has no octets, or more than 127.
 pub const OCTET_COUNT: u32 = 20;
 
-/// A shape's kind is unknown, or there is no alphabet at the place that it has.
+/// A shape's kind is unknown, or there is no alphabet at the index that it has.
 pub const SHAPE: u32 = 21;
 
 /// A struct is no alphabet as `asn1v_alphabet_new` fills it.

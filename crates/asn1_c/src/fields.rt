@@ -17,14 +17,14 @@ use asn1_values::{Shape as Known, read_wide};
 
 /// What C says of a field before it is read: `kind` is 0 for a number of `count` bits, 1 for
 /// `count` octets, 2 for `count` bits, 3 for an integer of `count` octets, 4 for an integer after
-/// an octet that counts its octets, 5 for a character of the alphabet at the place `count`, and 6
+/// an octet that counts its octets, 5 for a character of the alphabet at the index `count`, and 6
 /// for an identifier whose contents have `count` octets.
 #[repr(C)]
 #[derive(Clone, Copy, Debug)]
 pub struct Shape {
     /// Which kind of field it is.
     pub kind: u32,
-    /// How many bits or octets, or the place of the alphabet.
+    /// How many bits or octets, or the index of the alphabet.
     pub count: usize,
 }
 

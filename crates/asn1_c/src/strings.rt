@@ -72,7 +72,7 @@ pub(crate) fn pair_at(octets: &[u8], i: usize) -> u32
 }
 
 /// CountedSlice for the first wrong character of a string's octets: one octet a character, two in
-/// BMPString. Its place is counted in characters.
+/// BMPString. Its index is counted in characters.
 #[unsafe(no_mangle)]
 pub extern "C" fn asn1v_string_check(
     kind: u32,

@@ -17,7 +17,7 @@ use std::str;
 
 /// Writes the octets of the string of a text's characters to the front of the room, of which one
 /// octet for each octet of the text is always enough, two for BMPString. How many octets they are
-/// is returned also where the room is too small. The place of the first character that is not in the
+/// is returned also where the room is too small. The index of the first character that is not in the
 /// set is counted in characters; of a text that is not UTF-8 it is how many octets its longest
 /// front has that is.
 #[unsafe(no_mangle)]

@@ -120,7 +120,7 @@ fn plan_one(
     }
 }
 
-/// Writes fields that all have a place, and returns the bit after them.
+/// Writes fields that all have room, and returns the bit after them.
 fn put_fields(
     target: &mut [u8],
     position: usize,

@@ -155,7 +155,7 @@ fn try_from_bits(rt: HostRuntime) -> Result<(), Fail> {
 
 #[test]
 fn try_from_bit_string(rt: HostRuntime) -> Result<(), Fail> {
-    // Place 3 of the base set, which begins with a space, is the digit 2.
+    // Index 3 of the base set, which begins with a space, is the digit 2.
     let Ok(bits) = to_bitstring(rt.alloc(), BitStr::from_octets(&[0x33; 24])) else {
         return met_before(&rt, "try_from_bit_string");
     };

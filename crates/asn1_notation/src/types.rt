@@ -120,7 +120,7 @@ impl<'m, 'a> Parser<'m, 'a> {
     }
 
     /// Begins EXTERNAL, EMBEDDED PDV, CHARACTER STRING or INSTANCE OF, which have an associated type. The
-    /// entry inside has the place of the name of that type.
+    /// entry inside has the index of the name of that type.
     fn associated(&mut self, word: Word) -> Result<usize, NotationError> {
         let token = self.take();
         let index = self.open(Item::Plain, Some(word), token);

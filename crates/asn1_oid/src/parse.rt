@@ -67,7 +67,7 @@ pub fn parse_arcs(text: &[u8], room: &mut [u32]) -> Option<usize>
     Some(count)
 }
 
-/// Stores a number at a place, if there is such a place.
+/// Stores a number at an index, if there is such an index.
 fn store(room: &mut [u32], at: usize, number: u32)
     ensures { room.new ≡ slice_set room.old at number }
 {

@@ -10,7 +10,7 @@ ghost use Rattle.asn1_schema.specs.Example.{example, example_parts, example_bits
 /// A clause can't speak of every type of the algebra at once. Each combinator has a lemma in
 /// `specs/Laws`, and the laws of a type are put together from them as its definition is.
 pub fn laws_of_an_example()
-    // Bits begin with an encoding of one value at most, which ends at one place.
+    // Bits begin with an encoding of one value at most, which ends at one index.
     ensures decodes_one { (at : ℕ) → DecodesOne (example at).encoding.encodes }
     // Otherwise their first fault is one.
     ensures fault { (at : ℕ) → NamesFault (example at).encoding.encodes (example at).encoding.fault }

@@ -117,7 +117,7 @@ impl<'v> Writing<'v> {
         true
     }
 
-    /// Takes the place of the next value.
+    /// Takes the position of the next value.
     fn take(&mut self) -> Place {
         let Some(open) = self.last() else {
             return Place {
@@ -143,7 +143,7 @@ impl<'v> Writing<'v> {
         }
     }
 
-    /// Returns the place of the component of an index.
+    /// Returns the position of the component of an index.
     fn component(&self, rows: Rows, index: usize) -> Place {
         let row = Writing::row_in(rows, index);
         Place {

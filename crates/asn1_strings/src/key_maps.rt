@@ -33,7 +33,7 @@ pub(crate) trait CountedKeys: Keys {
         ensures { result ≡ (Self.key_map self.now).largest };
 }
 
-// A base set, with its places as keys.
+// A base set, with its indices as keys.
 impl Keys for CharacterSetName {
     ghost key_map = { base_map };
 

@@ -1,4 +1,4 @@
-//! Characters of one width in octets and bits, read by their places.
+//! Characters of one width in octets and bits, read by their indices.
 ghost use Rattle.std.specs.Prelude.{◌≡◌, ◌≤◌, ◌+◌, ◌*◌, ◌/◌, ◌<◌, length, map, slice_index, take, drop};
 ghost use Rattle.asn1_bits.specs.BitStr.{bits_of};
 ghost use Rattle.asn1_bits.specs.Bits.{digits, number};

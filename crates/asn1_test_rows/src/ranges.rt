@@ -26,7 +26,7 @@ pub fn answer_each<A: Answers>(
     Ok(text)
 }
 
-/// The place of the first word that is a range, with the range's first number and the one after its
+/// The index of the first word that is a range, with the range's first number and the one after its
 /// last.
 fn range_in(words: &[&str]) -> Option<(usize, usize, usize)> {
     for (place, word) in words.iter().enumerate() {

@@ -18,7 +18,7 @@ ghost use Rattle.asn1_x691.specs.Fields.{phase, constrained, length_of, small_le
 /// States what holds of a constrained whole number (X.691 11.5), in both variants, at each position of
 /// a message. It does nothing.
 pub fn laws_of_constrained()
-    // Bits begin with one number at most, which ends at one place.
+    // Bits begin with one number at most, which ends at one index.
     ensures decodes_one { (aligned : Bool) (range node at : ℕ)
         → DecodesOne (constrained aligned range node at).encodes }
     // Otherwise their first fault is one.
@@ -93,7 +93,7 @@ pub fn laws_of_string()
 /// States what holds of an open type (X.691 11.2) that holds an INTEGER (0..255), in both variants,
 /// at each position of a message.
 pub fn laws_of_an_open_type()
-    // Bits begin with one value at most, which ends at one place; otherwise their first fault is
+    // Bits begin with one value at most, which ends at one index; otherwise their first fault is
     // one.
     ensures decodes_one { (aligned : Bool) (at : ℕ) → DecodesOne (opened aligned at).encoding.encodes }
     ensures fault { (aligned : Bool) (at : ℕ)
@@ -112,7 +112,7 @@ pub fn laws_of_an_open_type()
 /// message, within any limits, for values that are nested less deep than the depth. `defaults` has
 /// the encodings of default values at each position in an octet. The tables need no check.
 pub fn laws_of_types()
-    // Bits begin with an encoding of one value at most, which ends at one place.
+    // Bits begin with an encoding of one value at most, which ends at one index.
     ensures decodes_one { (limits : Limits) (aligned : Bool) (nodes : List node.Node) (members : List member.Member)
         (ranges : List range.Range) (defaults : ℕ → ℕ → Option (List Bool)) (depth place at : ℕ)
         → DecodesOne (type_at limits aligned nodes members ranges defaults depth place at).encoding.encodes }

@@ -80,7 +80,7 @@ fn encode_item(
     }
 }
 
-/// Encodes an item that is not before the one that it follows, which begins at a place. Where the
+/// Encodes an item that is not before the one that it follows, which begins at an index. Where the
 /// octets are too few for both, they are compared in octets of their own.
 #[cycle(encoding)]
 fn encode_next(
@@ -119,7 +119,7 @@ fn encode_next(
 }
 
 /// Encodes an item and the one that it follows once more, in octets of their own. Returns whether the
-/// second, whose first part has the index `first`, is not before the first, which begins at a place.
+/// second, whose first part has the index `first`, is not before the first, which begins at an index.
 /// Otherwise the state has the reason.
 #[cycle(encoding)]
 fn are_ordered_alone(

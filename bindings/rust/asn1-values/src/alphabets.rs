@@ -32,7 +32,7 @@ pub enum StringKind {
 /// # Errors
 ///
 /// `StringError::Odd` for an odd number of octets of a `BMPString`, otherwise `StringError::Character` with the first
-/// character that is not in the set, and its place.
+/// character that is not in the set, and its index.
 ///
 /// ```
 /// use asn1_values::{check_string, StringError, StringKind};
@@ -42,7 +42,7 @@ pub enum StringKind {
 pub fn check_string(kind: StringKind, octets: &[u8]) -> Result<(), StringError> {
     let mut place = 0;
     let mut character = 0;
-    // SAFETY: pointer and length are those of a slice, and the other two are places of their own.
+    // SAFETY: pointer and length are those of a slice, and the other two have storage of their own.
     let code = unsafe {
         sys::asn1v_string_check(
             kind as u32,
@@ -139,7 +139,7 @@ impl<'s> Alphabet<'s> {
             aligned,
         };
         let mut raw = alphabet.raw();
-        // SAFETY: pointer and length are those of a slice, and `raw` is a place of its own.
+        // SAFETY: pointer and length are those of a slice, and `raw` is storage of its own.
         let code = unsafe {
             sys::asn1v_alphabet_new(
                 raw.kind,
@@ -183,7 +183,7 @@ impl<'s> Alphabet<'s> {
     pub fn encode(&self, character: u32) -> Result<u32, AlphabetError> {
         let raw = self.raw();
         let mut code = 0;
-        // SAFETY: `raw` refers to a slice that lives as long as `self`, and `code` is a place of its own.
+        // SAFETY: `raw` refers to a slice that lives as long as `self`, and `code` is storage of its own.
         match unsafe { sys::asn1v_alphabet_encode(&raw, character, &mut code) } {
             sys::DONE => Ok(code),
             _ => Err(AlphabetError::Character(character)),
@@ -204,7 +204,7 @@ impl<'s> Alphabet<'s> {
     pub fn decode(&self, code: u32) -> Result<u32, AlphabetError> {
         let raw = self.raw();
         let mut character = 0;
-        // SAFETY: `raw` refers to a slice that lives as long as `self`, and `character` is a place of its own.
+        // SAFETY: `raw` refers to a slice that lives as long as `self`, and `character` is storage of its own.
         match unsafe { sys::asn1v_alphabet_decode(&raw, code, &mut character) } {
             sys::DONE => Ok(character),
             _ => Err(AlphabetError::Code(code)),
@@ -221,7 +221,7 @@ impl<'s> Alphabet<'s> {
     pub fn width(&self) -> usize {
         let raw = self.raw();
         let mut width = 0;
-        // SAFETY: `raw` refers to a slice that lives as long as `self`, and `width` is a place of its own. `new` has
+        // SAFETY: `raw` refers to a slice that lives as long as `self`, and `width` is storage of its own. `new` has
         // seen that it is an alphabet, so the answer is always `DONE`.
         unsafe { sys::asn1v_alphabet_width(&raw, &mut width) };
         width

@@ -183,7 +183,7 @@ impl<'a> Bits<'a> {
 impl Ord for Bits<'_> {
     fn cmp(&self, other: &Self) -> Ordering {
         let mut order = 0;
-        // SAFETY: pointers and lengths are those of slices, and `order` is a place of its own. Bits lie within their
+        // SAFETY: pointers and lengths are those of slices, and `order` is storage of its own. Bits lie within their
         // octets, so the answer is always `DONE`.
         unsafe {
             sys::asn1v_compare_bits(
@@ -239,7 +239,7 @@ impl Hash for Bits<'_> {
 /// ```
 pub fn read_bits(octets: &[u8], position: usize, width: usize) -> Result<u128, BitsError> {
     let mut value = Words::ZERO;
-    // SAFETY: pointer and length are those of a slice, and `value` is a place of its own.
+    // SAFETY: pointer and length are those of a slice, and `value` is storage of its own.
     match unsafe {
         sys::asn1v_read_u128(octets.as_ptr(), octets.len(), position, width, &mut value)
     } {
@@ -300,7 +300,7 @@ pub fn or_number(
     width: usize,
 ) -> Result<(), BitsError> {
     let words = Words::of(value);
-    // SAFETY: pointer and length are those of a slice, and `words` is a place of its own.
+    // SAFETY: pointer and length are those of a slice, and `words` is storage of its own.
     let code =
         unsafe { sys::asn1v_or_number(target.as_mut_ptr(), target.len(), position, &words, width) };
     match code {

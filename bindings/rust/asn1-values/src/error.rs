@@ -76,9 +76,9 @@ pub enum StringError {
     Odd,
     /// A `GeneralString`, a `GraphicString` or a `TeletexString`, whose characters are not those of Unicode.
     NoUnicode,
-    /// The first surrogate, which UTF-8 has no octets for. Its place is counted in characters, from 0.
+    /// The first surrogate, which UTF-8 has no octets for. Its index is counted in characters, from 0.
     Surrogate {
-        /// Its place.
+        /// Its index.
         place: usize,
         /// The surrogate.
         character: u32,
@@ -87,9 +87,9 @@ pub enum StringError {
     TooMany,
     /// The room is too short.
     Room,
-    /// The first character that is not in the set. Its place is counted in characters, from 0.
+    /// The first character that is not in the set. Its index is counted in characters, from 0.
     Character {
-        /// Its place.
+        /// Its index.
         place: usize,
         /// The character.
         character: u32,

@@ -92,7 +92,7 @@ pub enum Shape<'s> {
 }
 
 impl<'s> Shape<'s> {
-    /// In C's numbers, with the place of its alphabet.
+    /// In C's numbers, with the index of its alphabet.
     fn raw(&self, place: usize) -> sys::Shape {
         let (kind, count) = match *self {
             Shape::Number { width } => (sys::NUMBER, width),

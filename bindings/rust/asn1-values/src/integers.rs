@@ -135,7 +135,7 @@ impl PartialOrd for Integer<'_> {
 #[must_use]
 pub fn integer_octets(number: i64, room: &mut [u8; 8]) -> &[u8] {
     let mut count = 0;
-    // SAFETY: pointer and length are those of the array, and `count` is a place of its own.
+    // SAFETY: pointer and length are those of the array, and `count` is storage of its own.
     unsafe { sys::asn1v_integer_from_i64(number, room.as_mut_ptr(), room.len(), &mut count) };
     &room[..count]
 }
@@ -151,7 +151,7 @@ pub fn integer_octets(number: i64, room: &mut [u8; 8]) -> &[u8] {
 /// ```
 pub fn integer_from_octets(octets: &[u8]) -> Result<i64, IntegerError> {
     let mut number = 0;
-    // SAFETY: pointer and length are those of a slice, and `number` is a place of its own.
+    // SAFETY: pointer and length are those of a slice, and `number` is storage of its own.
     match unsafe { sys::asn1v_integer_to_i64(octets.as_ptr(), octets.len(), &mut number) } {
         sys::DONE => Ok(number),
         sys::EMPTY => Err(IntegerError::Empty),
@@ -171,7 +171,7 @@ pub fn integer_from_octets(octets: &[u8]) -> Result<i64, IntegerError> {
 /// ```
 pub fn compare_integers(a: &[u8], b: &[u8]) -> Result<Ordering, IntegerError> {
     let mut order = 0;
-    // SAFETY: pointers and lengths are those of slices, and `order` is a place of its own.
+    // SAFETY: pointers and lengths are those of slices, and `order` is storage of its own.
     match unsafe {
         sys::asn1v_integer_compare(a.as_ptr(), a.len(), b.as_ptr(), b.len(), &mut order)
     } {

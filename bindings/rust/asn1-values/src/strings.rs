@@ -14,7 +14,7 @@ use crate::sys;
 /// ```
 pub fn count_characters(kind: StringKind, octets: &[u8]) -> Result<usize, StringError> {
     let mut count = 0;
-    // SAFETY: pointer and length are those of a slice, and `count` is a place of its own.
+    // SAFETY: pointer and length are those of a slice, and `count` is storage of its own.
     match unsafe { sys::asn1v_string_count(kind as u32, octets.as_ptr(), octets.len(), &mut count) }
     {
         sys::DONE => Ok(count),
@@ -47,7 +47,7 @@ impl Answer {
 fn to_utf8(kind: StringKind, octets: &[u8], room: &mut [u8]) -> Answer {
     let (mut count, mut place, mut character) = (0, 0, 0);
     // SAFETY: pointers and lengths are those of slices, of which the mutable one overlaps no other, and the last three
-    // are places of their own.
+    // have storage of their own.
     let code = unsafe {
         sys::asn1v_string_to_utf8(
             kind as u32,
@@ -71,7 +71,7 @@ fn to_utf8(kind: StringKind, octets: &[u8], room: &mut [u8]) -> Answer {
 fn from_utf8(kind: StringKind, text: &str, room: &mut [u8]) -> Answer {
     let (mut count, mut place, mut character) = (0, 0, 0);
     // SAFETY: pointers and lengths are those of a text and of a slice, which do not overlap, and the last three are
-    // places of their own.
+    // storage of their own.
     let code = unsafe {
         sys::asn1v_string_from_utf8(
             kind as u32,

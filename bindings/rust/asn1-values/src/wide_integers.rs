@@ -17,7 +17,7 @@ fn wrong(code: u32) -> IntegerError {
 #[must_use]
 pub fn u64_octets(number: u64, room: &mut [u8; 9]) -> &[u8] {
     let mut count = 0;
-    // SAFETY: pointer and length are those of the array, and `count` is a place of its own.
+    // SAFETY: pointer and length are those of the array, and `count` is storage of its own.
     unsafe { sys::asn1v_integer_from_u64(number, room.as_mut_ptr(), room.len(), &mut count) };
     &room[..count]
 }
@@ -35,7 +35,7 @@ pub fn u64_octets(number: u64, room: &mut [u8; 9]) -> &[u8] {
 /// ```
 pub fn u64_from_octets(octets: &[u8]) -> Result<u64, IntegerError> {
     let mut number = 0;
-    // SAFETY: pointer and length are those of a slice, and `number` is a place of its own.
+    // SAFETY: pointer and length are those of a slice, and `number` is storage of its own.
     match unsafe { sys::asn1v_integer_to_u64(octets.as_ptr(), octets.len(), &mut number) } {
         sys::DONE => Ok(number),
         code => Err(wrong(code)),
@@ -51,7 +51,7 @@ pub fn u64_from_octets(octets: &[u8]) -> Result<u64, IntegerError> {
 pub fn i128_octets(number: i128, room: &mut [u8; 16]) -> &[u8] {
     let words = Words::of(number as u128);
     let mut count = 0;
-    // SAFETY: pointer and length are those of the array, `words` lives through the call, and `count` is a place of its
+    // SAFETY: pointer and length are those of the array, `words` lives through the call, and `count` is storage of its
     // own.
     unsafe { sys::asn1v_integer_from_i128(&words, room.as_mut_ptr(), room.len(), &mut count) };
     &room[..count]
@@ -68,7 +68,7 @@ pub fn i128_octets(number: i128, room: &mut [u8; 16]) -> &[u8] {
 /// ```
 pub fn i128_from_octets(octets: &[u8]) -> Result<i128, IntegerError> {
     let mut number = Words::ZERO;
-    // SAFETY: pointer and length are those of a slice, and `number` is a place of its own.
+    // SAFETY: pointer and length are those of a slice, and `number` is storage of its own.
     match unsafe { sys::asn1v_integer_to_i128(octets.as_ptr(), octets.len(), &mut number) } {
         sys::DONE => Ok(number.number() as i128),
         code => Err(wrong(code)),
@@ -84,7 +84,7 @@ pub fn i128_from_octets(octets: &[u8]) -> Result<i128, IntegerError> {
 pub fn u128_octets(number: u128, room: &mut [u8; 17]) -> &[u8] {
     let words = Words::of(number);
     let mut count = 0;
-    // SAFETY: pointer and length are those of the array, `words` lives through the call, and `count` is a place of its
+    // SAFETY: pointer and length are those of the array, `words` lives through the call, and `count` is storage of its
     // own.
     unsafe { sys::asn1v_integer_from_u128(&words, room.as_mut_ptr(), room.len(), &mut count) };
     &room[..count]
@@ -101,7 +101,7 @@ pub fn u128_octets(number: u128, room: &mut [u8; 17]) -> &[u8] {
 /// ```
 pub fn u128_from_octets(octets: &[u8]) -> Result<u128, IntegerError> {
     let mut number = Words::ZERO;
-    // SAFETY: pointer and length are those of a slice, and `number` is a place of its own.
+    // SAFETY: pointer and length are those of a slice, and `number` is storage of its own.
     match unsafe { sys::asn1v_integer_to_u128(octets.as_ptr(), octets.len(), &mut number) } {
         sys::DONE => Ok(number.number()),
         code => Err(wrong(code)),

@@ -23,7 +23,7 @@ impl<'a> BitStr<'a> {
     }
 
     /// Splits as `split_at` does. For a constant `at` below 256 the branch is decided at compile
-    /// time, and one addition takes the place of three.
+    /// time, and one addition replaces three.
     #[inline(always)]
     pub(crate) fn split_at_short(&self, at: usize) -> (BitStr<'a>, BitStr<'a>)
         requires { at ≤ (view_of self.now).len }
@@ -35,7 +35,7 @@ impl<'a> BitStr<'a> {
         if at >= 256 {
             return self.split_at(at);
         }
-        // With so few bits no sum of places exceeds `usize`.
+        // With so few bits no sum of indices exceeds `usize`.
         let behind = self.shift + at;
         let front = BitStr {
             storage: self.storage,

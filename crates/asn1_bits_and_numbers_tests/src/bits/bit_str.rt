@@ -87,7 +87,7 @@ fn slice(text: &mut String, view: BitStr<'_>, rest: &[&str]) -> Option<()> {
     None
 }
 
-/// What lies before a place of a view, and after it.
+/// What precedes an index of a view, and what follows it.
 fn split_at(text: &mut String, view: BitStr<'_>, rest: &[&str]) -> Option<()> {
     if let [at] = rest
         && let Some(at) = size(at)

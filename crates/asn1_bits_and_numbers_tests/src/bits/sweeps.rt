@@ -1,4 +1,4 @@
-//! Calls that write, at many places and lengths, compared bit by bit with what they are to leave.
+//! Calls that write, at many indices and lengths, compared bit by bit with what they are to leave.
 
 use crate::bits::overwritten::put_digits;
 use crate::bits::words::{octets_of, push_number, size, wide};

@@ -21,7 +21,7 @@ impl OctetSource for ViewOctets<'_> {
     }
 
     fn octet(&self, i: usize) -> u8 {
-        // For the proof: `len()` ensures that the length, and so each place, is below 2^64.
+        // For the proof: `len()` ensures that the length, and so each index, is below 2^64.
         let _len = self.bits.len();
         read_u128(self.bits.slice(8 * i, 8)) as u8
     }

@@ -74,7 +74,7 @@ fn by_value<S: StaticPermittedAlphabet>(
     string_text(alloc, S::try_from_bits(alloc, bits, width))
 }
 
-/// What the bits encode by the places of the base set.
+/// What the bits encode by the indices of the base set.
 fn by_places<S: StaticPermittedAlphabet>(
     alloc: Global,
     bits: BitStr<'_>,

@@ -12,7 +12,7 @@ ghost use Rattle.asn1_x690.specs.Example.{example_nodes, example_context, exampl
 /// States what holds of the elements that encode values of each type of each schema, for values
 /// that are nested less deep than the depth. It does nothing. The tables need no check.
 pub fn laws_of_types()
-    // Bits begin with an encoding of one value at most, which ends at one place.
+    // Bits begin with an encoding of one value at most, which ends at one index.
     ensures decodes_one { (nodes : List node.Node) (context : Context) (depth place : ℕ)
         → DecodesOne (encoding_at nodes context depth place).encoding.encodes }
     // Otherwise their first fault is one.

@@ -72,7 +72,7 @@ fn take(
     let mut end = 0;
     let mut refusal = sys::Refusal::NONE;
     // SAFETY: pointers and lengths are those of slices, of which the mutable one overlaps no other; alphabets are those
-    // that `Alphabet::new` has seen, and the rest are places of their own.
+    // that `Alphabet::new` has seen, and the rest have storage of their own.
     let code = unsafe {
         sys::asn1v_read_fields(
             octets.as_ptr(),

@@ -70,7 +70,7 @@ fn put(target: &mut [u8], at: usize, parts: &Parts<'_>) -> (u32, usize, sys::Ref
     let mut end = at;
     let mut refusal = sys::Refusal::NONE;
     // SAFETY: pointers and lengths are those of slices, of which the mutable one overlaps no other; the alphabet is one
-    // that `Alphabet::new` has seen, and the rest are places of their own.
+    // that `Alphabet::new` has seen, and the rest have storage of their own.
     let code = unsafe {
         sys::asn1v_write_fields(
             target.as_mut_ptr(),
