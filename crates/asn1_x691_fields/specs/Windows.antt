@@ -7,7 +7,7 @@ use Rattle.asn1_x691_fields.specs.declared.windows.Window.{Window}
 abbrev pub field_of_word : ℕ → ℕ → ℕ → ℕ
 field_of_word word skipped width = word * 2 ^ skipped % 2 ^ 64 / 2 ^ (64 - width)
 
--- a window has the bits from a place on, as far as its word reaches
+-- a window has the bits from an index on, as far as its word reaches
 pub record IsWindow (list : List Bool) (at : ℕ) (w : Window) : Type 0 where
   pub shift : w.shift < 64
   pub numbers : (skipped width : ℕ) → w.shift + (skipped + width) ≤ 64

@@ -60,7 +60,8 @@ pub fn alphabet_of_few(ranges: &[Range], is_aligned: bool) -> Alphabet<'_>
 }
 
 /// Returns the alphabet of ranges in the UNALIGNED variant, if they ascend, none of them is empty, they
-/// have from 2 to 128 characters, and codes are indices. There must be fewer than 2^32 ranges.
+/// have from 2 to 128 characters, and codes are indices. There must be fewer than 2^32 ranges. No clause
+/// says when it is `Some`: otherwise the caller takes `alphabet_of_few`, which is for all ranges.
 #[inline(always)]
 pub fn narrow_alphabet(ranges: &[Range]) -> Option<Alphabet<'_>>
     requires { length ranges.now < 2 ^ 32 }

@@ -1,4 +1,7 @@
 //! Numbers of a few bits, one after another in a word, which are compared at once.
+//!
+//! The clauses say what `true` means. A body that returns `false` is right as well: the caller then
+//! compares the numbers one after another, and its clause is exact.
 
 ghost use Rattle.std.specs.Prelude.{◌≡◌, ◌≤◌, ◌<◌, ◌^◌, ◌*◌, ◌/◌, ◌+◌, true};
 ghost use Rattle.std.specs.List.{AllByRecursion};

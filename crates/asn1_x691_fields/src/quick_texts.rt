@@ -1,4 +1,7 @@
 //! Short strings of characters in the UNALIGNED variant, of one word of a message.
+//!
+//! No clause says when it is quick to tell, so a body that reads nothing, or returns `false`, is right
+//! as well: the caller then reads by the general functions, whose clauses are exact.
 
 ghost use Rattle.std.specs.Prelude.{◌≡◌, ℕ, ◌≤◌, ◌<◌, ◌^◌, ◌*◌, ◌+◌, List, Bool, true, false, length, drop, IfSome, IsNone};
 ghost use Rattle.std.specs.List.{AllByRecursion};

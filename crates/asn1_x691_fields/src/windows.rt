@@ -16,7 +16,8 @@ pub struct Window {
 }
 
 /// Returns eight octets of a message with the bit at an index, and as many after it as there are. A
-/// message of fewer octets has none.
+/// message of fewer octets has none. No clause says that others have one: without it the caller
+/// takes the general functions, whose clauses are exact.
 #[inline(always)]
 pub fn window_at(octets: &[u8], at: usize) -> Option<Window>
     requires size { 8 * length octets.now < 2 ^ 64 }

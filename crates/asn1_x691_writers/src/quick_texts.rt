@@ -1,4 +1,7 @@
 //! Short strings of characters in the UNALIGNED variant, each written as one number.
+//!
+//! No clause says which strings are short, so a body that always returns `None` is right as well: the
+//! caller then writes by the general functions, whose clauses are exact.
 
 ghost use Rattle.std.specs.Prelude.{◌≡◌, ℕ, ◌+◌, ◌*◌, ◌^◌, ◌<◌, ◌≤◌, IfSome, false, length, take, drop};
 ghost use Rattle.asn1_bits.specs.Bits.{bits, digits};

@@ -71,7 +71,7 @@ fn is_right_or(
     None
 }
 
-/// Whether each bit is that of before, or one of the first bits of the source that is there.
+/// Returns whether each bit is the old one ORed with the bit that the source has for its index.
 fn is_ored(after: &[u8], before: &[u8], src: &[u8], position: usize, count: usize) -> bool {
     let mut is_right = after.len() == before.len();
     for place in 0..8 * after.len().min(100) {
@@ -133,7 +133,7 @@ fn is_right_number(
     None
 }
 
-/// Whether each bit is that of before, or the digit that is there.
+/// Returns whether each bit is the digit written to its index, or otherwise the old bit.
 fn is_overwritten(after: &[u8], before: &[u8], digits: (u128, usize), position: usize) -> bool {
     let mut is_right = after.len() == before.len();
     for place in 0..8 * after.len().min(100) {
