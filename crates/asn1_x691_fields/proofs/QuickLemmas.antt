@@ -1,42 +1,18 @@
 -- Short strings of characters that one word of a message has.
 use Rattle.std.proofs.Common.{◌≡◌, ℕ, zero, suc, ◌+◌, ◌-◌, ◌*◌, ◌%◌, ◌^◌, ◌<◌, ◌≤◌, ◌⊎◌, inl, inr, List, [], ◌++◌, Bool, true, false, take, drop, refl, sym, ◌∙◌, ap, subst, arith}
 use Rattle.std.proofs.Math.Logic.{⊎_elim}
-use Rattle.std.proofs.Math.Nat.{mod-lt}
-use Rattle.std.proofs.Math.Pow.{shr_lt}
-use Rattle.std.proofs.lemmas.Bool.{cases_lt}
-use Rattle.std.proofs.lemmas.Nat.{pow_pos}
 use Rattle.asn1_bits.specs.Bits.{number}
 use Rattle.asn1_schema.specs.declared.tables.Range.{Range}
 use Rattle.asn1_schema.specs.Encodings.{Starts, number as number_of, each}
 use Rattle.asn1_x691.specs.declared.fault.FaultKind.{FaultKind}
 use Rattle.asn1_x691.specs.declared.fault.FaultKind.TheVariants.{Short}
 use Rattle.asn1_x691.specs.Alphabets.{width_of}
-use Rattle.asn1_x691.specs.Characters.{IsInlineText, IsOnOctetText, character, sized_characters, sized_text}
+use Rattle.asn1_x691.specs.Characters.{character, sized_characters, sized_text}
 use Rattle.asn1_x691.specs.Fields.{width_to, up_to, constrained}
 use Rattle.asn1_x691_fields.specs.declared.state.State.{State}
 use Rattle.asn1_x691_fields.specs.Outcomes.{IsWithin, IsOnward, rest, position}
 use Rattle.asn1_x691_fields.specs.Steps.{split, number_starts, then_starts, turn_starts}
-use Rattle.asn1_x691_fields.specs.Windows.{field_of_word}
-
--- the number of so many bits of a word
-pub field_below : (word skipped width : ℕ) → width ≤ 64 → field_of_word word skipped width < 2 ^ width
-field_below word skipped width h =
-    let e : width + (64 - width) ≡ 64 = omega (arith, h) in
-    let below : word * 2 ^ skipped % 2 ^ 64 < 2 ^ 64 = mod-lt (word * 2 ^ skipped) (pow_pos 64) in
-    shr_lt width (64 - width) (subst (λ (n : ℕ). word * 2 ^ skipped % 2 ^ 64 < 2 ^ n) (sym e) below)
-
--- each number of characters begins where it is, or at an octet
-pub inline_or_not : (w least range n : ℕ) → IsInlineText w least range n ⊎ IsOnOctetText w least range n
-inline_or_not w least range zero = inl (inl refl)
-inline_or_not w least zero (suc n) = fixed (cases_lt 16 (w * least)) where
-  fixed : (16 < w * least) ⊎ (w * least ≤ 16) → IsInlineText w least 0 (suc n) ⊎ IsOnOctetText w least 0 (suc n)
-  fixed (inl many) = inr (omega arith, inl (refl, many))
-  fixed (inr few) = inl (inr (inl (refl, few)))
-inline_or_not w least (suc range) (suc n) = free (cases_lt (w * (least + suc range)) 16) where
-  free : (w * (least + suc range) < 16) ⊎ (16 ≤ w * (least + suc range))
-      → IsInlineText w least (suc range) (suc n) ⊎ IsOnOctetText w least (suc range) (suc n)
-  free (inl few) = inl (inr (inr (omega arith, few)))
-  free (inr many) = inr (omega arith, inr (omega arith, many))
+use Rattle.asn1_x691_fields.specs.WindowSteps.{is_inline_or_on_octet}
 
 -- the number of the characters, and the characters, in the UNALIGNED variant
 pub sized_quickly : (list : List Bool) (old new : State) → IsWithin list old → (aligned : Bool) (ranges : List Range)
@@ -70,7 +46,7 @@ sized_quickly list old new h false ranges node least range more first size text 
     let others : Starts (sized_characters false ranges node least range (least + more) (position mid)).encodes (rest list mid) text (rest list new) =
     record {
       front = take size (drop (old.at + first) list);
-      encoded = ⊎_elim (λ i. inl (i, codes)) (λ o. inr (o, codes)) (inline_or_not w least range (least + more));
+      encoded = ⊎_elim (λ i. inl (i, codes)) (λ o. inr (o, codes)) (is_inline_or_on_octet w least range (least + more));
       parts = split list (old.at + first) size old.end (omega (arith, fits))
           ∙ ap (λ (l : List Bool). take size (drop (old.at + first) list) ++ l) left;
     } in

@@ -19,3 +19,4 @@ pub mod StringSteps
 pub mod TextSteps
 pub mod TrimmedSteps
 pub mod Utf8Steps
+pub mod WindowSteps

@@ -1,6 +1,6 @@
 //! Windows: eight octets of a message as a word, of which several numbers are read.
 
-ghost use Rattle.std.specs.Prelude.{◌≡◌, ◌+◌, ◌*◌, ◌^◌, ◌<◌, ◌≤◌, length, IfSome};
+ghost use Rattle.std.specs.Prelude.{◌≡◌, ◌+◌, ◌*◌, ◌^◌, ◌<◌, ◌≤◌, length, IfSome, IsNone};
 ghost use Rattle.asn1_bits.specs.Bits.{bits};
 ghost use Rattle.asn1_x691_fields.specs.Windows.{IsWindow, field_of_word};
 
@@ -15,14 +15,14 @@ pub struct Window {
     pub shift: usize,
 }
 
-/// Returns eight octets of a message with the bit at an index, and as many after it as there are. A
-/// message of fewer octets has none. No clause says that others have one: without it the caller
-/// takes the general functions, whose clauses are exact.
+/// Returns eight octets of a message with the bit at an index, and as many after it as there are. Only
+/// a message of fewer octets has none.
 #[inline(always)]
 pub fn window_at(octets: &[u8], at: usize) -> Option<Window>
     requires size { 8 * length octets.now < 2 ^ 64 }
     requires within { at < 8 * length octets.now }
-    ensures { IfSome result (λ w. IsWindow (bits octets.now) at w) }
+    ensures is { IfSome result (λ w. IsWindow (bits octets.now) at w) }
+    ensures none { IsNone result → length octets.now < 8 }
 {
     let len = octets.len();
     if len < 8 {

@@ -10,7 +10,7 @@ use Rattle.asn1_schema.specs.Encodings.{each}
 use Rattle.asn1_x691.specs.Alphabets.{width_of}
 use Rattle.asn1_x691.specs.Characters.{character, sized_text}
 use Rattle.asn1_x691.specs.Fields.{width_to}
-use Rattle.asn1_x691_fields.proofs.QuickLemmas.{inline_or_not}
+use Rattle.asn1_x691_fields.specs.WindowSteps.{is_inline_or_on_octet}
 use Rattle.asn1_x691_writers.proofs.WidthLemmas.{width_enough}
 
 -- two numbers, one after the other
@@ -51,7 +51,7 @@ sized_encodes ranges node least range more at text codes few all = record {
     is = refl;
     parts = sym (append-nil (digits more (width_to range)));
   };
-  second = ⊎_elim (λ i. inl (i, all)) (λ o. inr (o, all)) (inline_or_not (width_of false ranges) least range (least + more));
+  second = ⊎_elim (λ i. inl (i, all)) (λ o. inr (o, all)) (is_inline_or_on_octet (width_of false ranges) least range (least + more));
   is = refl;
   parts = refl;
 }

@@ -2,7 +2,7 @@ use Rattle.std.proofs.Common.{ℕ, ◌+◌, ◌*◌, ◌^◌, ◌<◌, ◌≤◌
 use Rattle.std.specs.List.{AllByRecursion}
 use Rattle.asn1_schema.specs.CharactersOfParts.{numbers_in}
 use Rattle.asn1_x691_fields.proofs.CodeLemmas.{all_codes}
-use Rattle.asn1_x691_fields.proofs.QuickLemmas.{field_below}
+use Rattle.asn1_x691_fields.specs.WindowSteps.{field_below}
 use Rattle.asn1_x691_fields.proofs.WordLemmas.{word_is}
 use Rattle.asn1_x691_fields.proofs.quick_texts.have_codes.Goals as goal
 

@@ -21,7 +21,7 @@ returns-clause-read c node =
     let count = c.args.least + c.number_in-more.result in
     let size = a.width * count in
     let fits : s.at + (first + size) ≤ s.end = omega (arith, c.if-size-state.false, c.requires.within.ends) in
-    let is = c.in_ok-window.ensures in
+    let is = c.in_ok-window.ensures.is in
     let here : s.at + 0 ≡ s.at = omega arith in
     let more : c.number_in-more.result ≡ number (take first (drop s.at list)) =
     c.number_in-more.ensures ∙ is.numbers 0 first (omega (arith, c.if-window-size-gt63.false))

@@ -8,7 +8,7 @@ use Rattle.asn1_x691.specs.Alphabets.{width_of}
 use Rattle.asn1_x691_fields.specs.Characters.{characters_at}
 use Rattle.asn1_x691_fields.specs.Outcomes.{IsRead}
 use Rattle.asn1_x691_fields.specs.NumberSteps.{first_read, octet_read, second_read}
-use Rattle.asn1_x691_fields.proofs.QuickLemmas.{inline_or_not}
+use Rattle.asn1_x691_fields.specs.WindowSteps.{is_inline_or_on_octet}
 use Rattle.asn1_x691_fields.proofs.sized_texts.next_characters_of.Goals as goal
 
 -- in the UNALIGNED variant both begin where they are
@@ -29,7 +29,7 @@ returns-then-not-alphabet-clause-read c =
     (λ i. first_read list c.args.state.now new g C D (anywhere field) (on_octet a.is_aligned node field) c.next_characters.result i read)
     (λ o. second_read list c.args.state.now new g C D (anywhere field) (on_octet a.is_aligned node field) c.next_characters.result o
     (subst (λ (b : Bool). IsRead (on_octet b node field) g list c.args.state.now new c.next_characters.result) (sym c.if-not-alphabet.true) read))
-    (inline_or_not w c.args.least c.args.range count)
+    (is_inline_or_on_octet w c.args.least c.args.range count)
 
 pub returns-then-is_inline_text-clause-read : goal.returns-then-is_inline_text-clause-read
 returns-then-is_inline_text-clause-read c =

@@ -6,8 +6,8 @@ use Rattle.asn1_x691_fields.proofs.windows.window_at.Goals as goal
 pub word_at-requires : goal.word_at-requires
 word_at-requires c = omega (arith, c.min-first.ensures, c.if-len-lt8.false)
 
-pub returns : goal.returns
-returns c =
+pub returns-clause-is : goal.returns-clause-is
+returns-clause-is c =
     let list = bits c.args.octets.now in
     let at = c.args.at in
     let first = c.min-first.result in

@@ -5,7 +5,7 @@ use Rattle.asn1_bits.specs.Laws.DigitLaws.{length-bits}
 use Rattle.asn1_bits.specs.Laws.NumberLaws.{digits_of-number}
 use Rattle.asn1_schema.specs.CharactersOfParts.{numbers_in}
 use Rattle.asn1_x691_fields.specs.Characters.{AreCodes}
-use Rattle.asn1_x691_fields.proofs.QuickLemmas.{field_below}
+use Rattle.asn1_x691_fields.specs.WindowSteps.{field_below}
 use Rattle.asn1_x691_writers.specs.CopiedSteps.{same_codes}
 use Rattle.asn1_x691_writers.proofs.quick_texts.short_codes_of.Goals as goal
 
@@ -24,7 +24,7 @@ returns-clause-copied c =
     let here : text.at + 0 ≡ text.at = omega arith in
     let inside : text.at + size ≤ 8 * length c.args.source.now = omega (arith, c.if-size-end.false, c.if-text-end.false) in
     let within : text.at + (0 + size) ≤ length list = omega (arith, inside, length-bits c.args.source.now) in
-    let codes = c.have_codes.ensures list text.at c.in_ok-window.ensures within c.if-not-have_codes.false in
+    let codes = c.have_codes.ensures list text.at c.in_ok-window.ensures.is within c.if-not-have_codes.false in
     record {
       inside = inside;
       codes = subst (λ (p : ℕ). AreCodes a (numbers_in a.width text.count (drop p list))) here codes;
@@ -41,6 +41,6 @@ returns-clause-codes c =
     let some : size ≤ length (drop text.at list) =
     omega (arith, c.if-size-end.false, c.if-text-end.false, length-bits c.args.source.now, length-drop text.at list) in
     let is : c.number_in.result ≡ number (take size (drop text.at list)) =
-    c.number_in.ensures ∙ c.in_ok-window.ensures.numbers 0 size (omega (arith, c.if-window-size-gt63.false))
+    c.number_in.ensures ∙ c.in_ok-window.ensures.is.numbers 0 size (omega (arith, c.if-window-size-gt63.false))
     ∙ ap (λ (p : ℕ). number (take size (drop p list))) here in
     ap (λ (n : ℕ). digits n size) is ∙ digits_of-number (take size (drop text.at list)) size (length-take-le size (drop text.at list) some)
