@@ -16,7 +16,7 @@ abbrev pub end_of : List Range → ℕ
 end_of [] = 0
 end_of (r ∷ ranges) = max (r.last + 1) (end_of ranges)
 
--- the first of the numbers from one on up to which there are more than so many characters, or the number after so many of them
+-- the first of the numbers from `from` on up to which there are more than `i` characters, or the number after `count` of them
 abbrev pub first_past : List Range → ℕ → ℕ → ℕ → ℕ
 first_past ranges i from zero = from
 first_past ranges i from (suc count) =
@@ -30,7 +30,7 @@ abbrev pub character_of : List Range → Codes → ℕ → ℕ
 character_of ranges Numbers i = i
 character_of ranges (Indices rows) i = character_at (slice_range ranges rows.from (rows.from + rows.count)) i
 
--- so many numbers of so many bits each, one after another
+-- `count` numbers of `width` bits each, one after another
 abbrev pub numbers_in : ℕ → ℕ → List Bool → List ℕ
 numbers_in width zero list = []
 numbers_in width (suc count) list = number (take width list) ∷ numbers_in width count (drop width list)

@@ -51,7 +51,7 @@ pub record CanEncode {X : Type 0} (P : X → List Bool → Type 0) (x : X) : Typ
 abbrev pub IsAt : {K : Type 0} → K → ℕ → List Bool → Fault K → Type 0
 IsAt kind node list e = e ≡ record { node = node; left = length list; kind = kind }
 
--- the same fault, where so many more bits follow
+-- the same fault, where `more` bits more follow
 abbrev pub with_more_after : {K : Type 0} → ℕ → Fault K → Fault K
 with_more_after more e = record { node = e.node; left = e.left + more; kind = e.kind }
 
@@ -103,7 +103,7 @@ except C kind node A = record {
       ⊎ (Then (with_bits A).encodes (λ v rest. C v.1) list × IsAt kind node list e);
 }
 
--- so many bits, filled by contents
+-- `count` bits, filled by contents
 abbrev pub of_size : {K X : Type 0} → ℕ → K → ℕ → Contents K X → Encoding K X
 of_size count short node F = record {
   encodes = λ x list. (length list ≡ count) × F.fills x list;
@@ -168,7 +168,7 @@ by_size F = record { fills = λ x list. (F (length list)).fills x list; fault = 
 abbrev pub mapped : {K X Y : Type 0} → (X → Y) → Contents K X → Contents K Y
 mapped f F = record { fills = λ y list. (x : _) × F.fills x list × (y ≡ f x); fault = F.fault }
 
--- values one after another to the end, at most so many; each may depend on the bits of the one before it
+-- values one after another to the end, at most `most`; each may depend on the bits of the one before it
 abbrev pub items : {K X Y : Type 0} → K → ℕ → (List Bool → Encoding K X) → Y → (X → Y → Y) → List Bool → ℕ → Contents K Y
 items extra node A none f before zero = only extra node (constant none)
 items extra node A none f before (suc most) =
@@ -179,7 +179,7 @@ items extra node A none f before (suc most) =
 abbrev pub repeated : {K X Y : Type 0} → K → ℕ → (List Bool → Encoding K X) → Y → (X → Y → Y) → Contents K Y
 repeated extra node A none f = by_size (λ size. items extra node A none f [] size)
 
--- ---- encodings that depend on their position: at `at`, so many bits of the message precede them
+-- ---- encodings that depend on their position: `at` bits of the message precede them
 
 abbrev pub anywhere : {K X : Type 0} → Encoding K X → ℕ → Encoding K X
 anywhere A at = A
@@ -215,7 +215,7 @@ value_where P kind node = record {
   fault = λ list e. ((x : _) → P x → ⊥) × IsAt kind node list e;
 }
 
--- so many values, one after another
+-- `n` values, one after another
 abbrev pub each : {K X : Type 0} → Encoding K X → ℕ → Encoding K (List X)
 each A zero = constant []
 each A (suc n) = then A (λ x xs. x ∷ xs) (λ x. each A n)

@@ -2,6 +2,6 @@
 use Rattle.std.specs.Prelude.{ℕ, Bool, List}
 use Rattle.asn1_schema.specs.Encodings.{Encoding, any_bits, of_size}
 
--- so many bits, as they are
+-- `count` bits, as they are
 abbrev pub raw_bits : {K : Type 0} → ℕ → K → ℕ → Encoding K (List Bool)
 raw_bits count short node = of_size count short node any_bits

@@ -10,7 +10,7 @@ pub data Piece : Type 0 where
   Truth : Bool → Piece
   -- INTEGER
   Integer : ℤ → Piece
-  -- ENUMERATED: the place of the enumeral in the type's table; or an unknown one, by its index among the additions
+  -- ENUMERATED: the index of the enumeral in the type's table; or an unknown one, by its index among the additions
   Enumerated : ℕ → Piece
   UnknownEnumerated : ℕ → Piece
   -- BIT STRING
@@ -19,13 +19,13 @@ pub data Piece : Type 0 where
   Octets : List Bool → Piece
   -- character strings and times: the numbers of the characters
   Text : List ℕ → Piece
-  -- so many components of the root of a SEQUENCE or a SET follow, each a value or `Absent`; then `Additions` where this is true
+  -- this many components of the root of a SEQUENCE or SET follow, each a value or `Absent`; then `Additions` where this is true
   Sequence : ℕ → Bool → Piece
-  -- so many additions follow, each a value, `Absent` or `Unknown`
+  -- this many additions follow, each a value, `Absent` or `Unknown`
   Additions : ℕ → Piece
-  -- so many items of a SEQUENCE OF or a SET OF follow
+  -- this many items of a SEQUENCE OF or a SET OF follow
   Count : ℕ → Piece
-  -- the alternative of this place follows; or an unknown one, by its index among the additions
+  -- the alternative of this index follows; or an unknown one, by its index among the additions
   Chosen : ℕ → Piece
   UnknownChosen : ℕ → Piece
   -- the octets of a value that the schema does not know

@@ -17,7 +17,7 @@ bits_at list at count = take count (drop at list)
 abbrev pub bits_of : List Bool → Span → List Bool
 bits_of list s = bits_at list s.at s.count
 
--- fragments of 65,536 units of so many bits, each after a length octet but the first
+-- fragments of 65,536 units of `unit` bits, each after a length octet but the first
 unfoldable pub whole_fragments : ℕ → List Bool → ℕ → ℕ → List Bool
 whole_fragments unit list at zero = []
 whole_fragments unit list at (suc times) =
@@ -47,6 +47,7 @@ piece_of ranges list (part.Signed s) = Integer (signed_number (bits_of list s))
 piece_of ranges list (part.Enumerated i) = Enumerated i
 piece_of ranges list (part.UnknownEnumerated i) = UnknownEnumerated (natural_of list i)
 piece_of ranges list (part.Bits s) = Bits (bits_of list s)
+piece_of ranges list (part.BitsInFragments f) = Bits (joined 1 list f)
 piece_of ranges list (part.Octets s) = Octets (bits_of list s)
 piece_of ranges list (part.OctetsInFragments f) = Octets (joined 8 list f)
 piece_of ranges list (part.Text text) = Text (characters_of ranges list text)

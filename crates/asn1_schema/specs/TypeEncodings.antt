@@ -1,5 +1,5 @@
 -- Encodings of types, both ways: which bits encode which parts, the first fault of bits, and the first misfit of parts.
--- Positions: at `at`, so many bits of the message precede the encoding. An encoding that does not align ignores it.
+-- Positions: `at` bits of the message precede the encoding. An encoding that does not align ignores it.
 use Rattle.std.specs.Prelude.{◌≡◌, ℕ, zero, suc, ◌+◌, ◌⊎◌, ⊤, Bool, true, false, List, [], ◌∷◌, ◌++◌, length}
 use Rattle.asn1_schema.specs.declared.misfit.MisfitKind.{MisfitKind}
 use Rattle.asn1_schema.specs.declared.misfit.MisfitKind.TheVariants.{NoPart, OtherPart, NoEncoding}
@@ -60,7 +60,7 @@ both A B at = record {
   misfit = PairMisfit (A at) (λ n. (B n).misfit) at;
 }
 
--- so many values
+-- `n` values
 abbrev pub several : {K : Type 0} → (ℕ → TypeEncoding K) → ℕ → ℕ → TypeEncoding K
 several A zero = nothing
 several A (suc n) = both A (several A n)
@@ -98,7 +98,7 @@ pub record AreUntold {K X : Type 0} (H : Encoding K X) (P : X → Parts → List
   pub are : tape ≡ parts ++ rest
   pub none : CanEncode H.encodes value → ⊥
 
--- a header of so many bits, then what it tells
+-- a header of `width` bits, then what it tells
 abbrev pub header : {K X : Type 0} → Encoding K X → ℕ → (ℕ → AfterHeader K X) → ℕ → ℕ → TypeEncoding K
 header H width B node at = record {
   encoding = in_turn (λ n. H) (λ x ts. ts) (λ x n. (B n).after x) at;
@@ -121,7 +121,7 @@ both_by_bits A B at = record {
       ⊎ AfterParts (A at).encoding.encodes (λ list rest. (B list (at + length list)).misfit rest e) tape;
 }
 
--- so many values, each of which may depend on the bits of the one before it
+-- `n` values, each of which may depend on the bits of the one before it
 abbrev pub several_by_bits : {K : Type 0} → (List Bool → ℕ → TypeEncoding K) → List Bool → ℕ → ℕ → TypeEncoding K
 several_by_bits A before zero = nothing
 several_by_bits A before (suc n) = both_by_bits (A before) (λ list. several_by_bits A list n)

@@ -13,7 +13,7 @@ held_by (Chosen i) = 1
 held_by (UnknownChosen i) = 1
 held_by _ = 0
 
--- the pieces are so many values, one after another
+-- the pieces are this many values, one after another
 pub data AreValues : ℕ → Parts → Type 0 where
   none : AreValues 0 []
   more : {n : ℕ} (p : Piece) {held others : Parts} → AreValues (held_by p) held → AreValues n others

@@ -1,5 +1,7 @@
 //! The parts of a value.
 
+ghost use Rattle.std.specs.Prelude.{◌≡◌, ◌+◌, ◌*◌, ◌<◌, Some, None, IfSome};
+
 use crate::tables::Rows;
 
 /// Bits of a message.
@@ -32,6 +34,31 @@ pub struct Fragments {
     pub middle: Span,
     /// The bits of the units after the fragments, fewer than 16,384 units.
     pub last: Span,
+}
+
+impl Fragments {
+    /// Returns the bits of the fragment at an index, where a unit has `unit` bits: first those of 65,536 units,
+    /// then `middle` and `last`. `None` after these, or if the index of a bit exceeds `usize`.
+    pub fn span(&self, unit: usize, index: usize) -> Option<Span>
+        ensures whole { index < self.now.whole → IfSome result (λ s. (s.at ≡ self.now.at + index * (65536 * unit + 8)) × (s.count ≡ 65536 * unit)) }
+        ensures middle { index ≡ self.now.whole → result ≡ Some self.now.middle }
+        ensures last { index ≡ self.now.whole + 1 → result ≡ Some self.now.last }
+        ensures none { self.now.whole + 1 < index → result ≡ None }
+    {
+        match index.checked_sub(self.whole) {
+            None => {
+                let count = unit.checked_mul(65536)?;
+                let before = index.checked_mul(count.checked_add(8)?)?;
+                Some(Span {
+                    at: self.at.checked_add(before)?,
+                    count,
+                })
+            }
+            Some(0) => Some(self.middle),
+            Some(1) => Some(self.last),
+            Some(_) => None,
+        }
+    }
 }
 
 /// What the codes of characters mean.
@@ -85,6 +112,8 @@ pub enum Part {
     UnknownEnumerated(Natural),
     /// BIT STRING.
     Bits(Span),
+    /// BIT STRING, in fragments.
+    BitsInFragments(Fragments),
     /// OCTET STRING, or another type whose value is its contents octets.
     Octets(Span),
     /// OCTET STRING, in fragments.

@@ -51,7 +51,7 @@ fn is_binary<S: NumberSource>(source: &S) -> bool
     is_long_binary(source)
 }
 
-/// Returns whether octets after the first are an exponent of one octet more than so many, which are
+/// Returns whether octets after the first are an exponent of `more + 1` octets, where `more` is
 /// at most two, and a mantissa.
 fn is_short_binary<S: NumberSource>(source: &S, more: usize) -> bool
     requires octets { AreOctets (S.list source.now) }
@@ -140,7 +140,7 @@ fn is_decimal_exponent<S: NumberSource>(source: &S, from: usize) -> bool
     from < count && source.number(from) == 45 && is_numeral(source, from + 1)
 }
 
-/// Returns whether octets from an index on are a number of base 10 without a sign, of which the full
+/// Returns whether octets from an index on are an unsigned number of base 10, of which the full
 /// stop is at another index.
 fn is_decimal_at<S: NumberSource>(source: &S, from: usize, stop: usize) -> bool
     requires { stop ≤ length (S.list source.now) }
@@ -173,7 +173,7 @@ fn digits_end<S: NumberSource>(source: &S, from: usize) -> usize
     count
 }
 
-/// Returns whether octets from an index on are a number of base 10 without a sign.
+/// Returns whether octets from an index on are an unsigned number of base 10.
 fn is_unsigned<S: NumberSource>(source: &S, from: usize) -> bool
     requires { from ≤ length (S.list source.now) }
     ensures { Decides result (IsUnsigned (S.list source.now) from) }

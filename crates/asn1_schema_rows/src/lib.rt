@@ -1,6 +1,6 @@
 //! Types and parts in the words of rows of tests.
 //!
-//! No program but those of tests should use this crate.
+//! Only test programs should use this crate.
 #![tactic(auto)]
 
 mod bounds;

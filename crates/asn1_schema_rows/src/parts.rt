@@ -62,7 +62,8 @@ fn word_of(alloc: Global, source: Source<'_>, part: Part) -> Result<String, RowE
         Part::Bits(span) => digits_at(alloc, "b", 1, octets, span),
         Part::Octets(span) => digits_at(alloc, "o", 4, octets, span),
         Part::Text(text) => characters_at(alloc, source, text),
-        Part::OctetsInFragments(fragments) => fragments_at(alloc, octets, fragments),
+        Part::BitsInFragments(fragments) => fragments_at(alloc, "b", 1, 1, octets, fragments),
+        Part::OctetsInFragments(fragments) => fragments_at(alloc, "o", 4, 8, octets, fragments),
         Part::Sequence { count, is_extended } => {
             let mark = if is_extended { "+" } else { "" };
             Ok(format!(in alloc; "seq{count}{mark}")?)
@@ -146,20 +147,22 @@ fn character_of(ranges: &[Range], codes: Codes, code: u128) -> Option<u128> {
     None
 }
 
-/// Returns octets in fragments by digits after a name.
-fn fragments_at(alloc: Global, octets: &[u8], fragments: Fragments) -> Result<String, RowError> {
-    let mut text = String::from_str(alloc, "o")?;
-    let mut at = fragments.at;
-    for _ in 0..fragments.whole {
-        let span = Span {
-            at,
-            count: 8 * 65_536,
+/// Returns units of `width` bits in fragments, by a digit of each after a name.
+fn fragments_at(
+    alloc: Global,
+    name: &str,
+    width: usize,
+    unit: usize,
+    octets: &[u8],
+    fragments: Fragments,
+) -> Result<String, RowError> {
+    let mut text = String::from_str(alloc, name)?;
+    for index in 0..octets.len() {
+        let Some(span) = fragments.span(unit, index) else {
+            break;
         };
-        push_digits(alloc, &mut text, 4, octets, span)?;
-        at = at.saturating_add(8 * 65_537);
+        push_digits(alloc, &mut text, width, octets, span)?;
     }
-    push_digits(alloc, &mut text, 4, octets, fragments.middle)?;
-    push_digits(alloc, &mut text, 4, octets, fragments.last)?;
     Ok(text)
 }
 

@@ -120,7 +120,7 @@ impl TagRows {
         }
     }
 
-    /// Has each element be a value of the type at a node, which has no tag then.
+    /// Makes each element a value of the type at a node, which then has no tag.
     pub(crate) fn permit_any(&mut self, node: usize) {
         if let Some(of) = self.types.as_mut_slice().get_mut(node) {
             let tags = Rows {
@@ -161,8 +161,8 @@ impl TagRows {
         Ok(tags)
     }
 
-    /// Gives the components of an addition group, which are already members, tags of the context from a
-    /// number on, and adds the group as a member.
+    /// Tags the components of an addition group, which are already members, with tags of the context
+    /// from a number on, and adds the group as a member.
     pub(crate) fn add_group(
         &mut self,
         members: &[Member],

@@ -98,7 +98,7 @@ impl Types {
         }
     }
 
-    /// Takes so many types as rows of the table of members. The first has this automatic tag.
+    /// Takes the last `count` types as rows of members. The first has this automatic tag.
     fn take_rows(&mut self, alloc: Global, count: usize, tag: usize) -> Result<Rows, RowError> {
         let from = self.members.len();
         let mut tag = tag as u64;
@@ -131,7 +131,7 @@ impl Types {
         }
     }
 
-    /// Adds an addition group of so many components.
+    /// Adds an addition group of `count` components.
     fn add_group(&mut self, alloc: Global, count: usize) -> Result<(), RowError> {
         let root = self.take_rows(alloc, count, 0)?;
         self.add_with(

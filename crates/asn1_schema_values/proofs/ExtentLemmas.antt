@@ -7,13 +7,13 @@ use Rattle.std.specs.Prelude.{slice_range}
 use Rattle.asn1_schema.specs.declared.part.Part.{Part}
 use Rattle.asn1_schema_values.specs.Extents.{AreValues, none, more, HasValues, held_by}
 
--- the parts after so many values
+-- the parts after `n` values
 abbrev pub rest_after : ℕ → List Part → Option (List Part)
 rest_after zero parts = Some parts
 rest_after (suc n) [] = None
 rest_after (suc n) (p ∷ parts) = rest_after (held_by p + n) parts
 
--- so many values that parts begin with, and the parts after them
+-- `n` values that parts begin with, and the parts after them
 pub record Begins (n : ℕ) (parts rest : List Part) : Type 0 where
   pub values : List Part
   pub are : AreValues n values
@@ -121,7 +121,7 @@ step parts left pending n d some within more_pending sum =
     ∙ ap (λ (i : ℕ). rest_after i (p ∷ others)) one
     ∙ ap (λ (i : ℕ). rest_after i others) held
 
--- more values than parts are not there
+-- there are no more values than parts
 pub too_many : (parts : List Part) (n : ℕ) → length parts < n → rest_after n parts ≡ None
 too_many parts zero less = absurd (omega arith)
 too_many [] (suc n) less = refl

@@ -26,6 +26,7 @@ module _ (ranges : List Range) (list : List Bool) where
   same_held (part.Enumerated i) = refl
   same_held (part.UnknownEnumerated i) = refl
   same_held (part.Bits s) = refl
+  same_held (part.BitsInFragments g) = refl
   same_held (part.Octets s) = refl
   same_held (part.OctetsInFragments g) = refl
   same_held (part.Text text) = refl

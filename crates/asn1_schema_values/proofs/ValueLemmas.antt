@@ -19,7 +19,7 @@ one_first names rows name a b one two =
     omega (arith, not_below, not_above)
 
 module _ (m : Message) (rows : Rows) (from count : ℕ) (name : List ℕ) (row : ℕ) (named : IsFirstNamed m.names rows name row) where
-  -- the place of the member is past the values
+  -- the index of the member is past the values
   pub none_past : count ≤ row - rows.from → (v : Value) → IsMember m rows from count name v → ⊥
   none_past past v is =
       let same = one_first m.names rows name row is.row named is.named in

@@ -1,4 +1,4 @@
--- Values among parts: where so many values end.
+-- Values among parts: where a number of values ends.
 use Rattle.std.specs.Prelude.{ℕ, suc, ◌+◌, ◌≤◌, true, false, List, [], ◌∷◌, ◌++◌, length, slice_range}
 use Rattle.asn1_schema.specs.declared.part.Part.{Part}
 use Rattle.asn1_schema.specs.declared.part.Part.TheVariants as part
@@ -14,13 +14,13 @@ held_by (part.Chosen i) = 1
 held_by (part.UnknownChosen i) = 1
 held_by _ = 0
 
--- The parts are so many values, one after another: a value is a part, and the values that it holds.
+-- The parts are this many values, one after another: a value is a part, and the values that it holds.
 pub data AreValues : ℕ → List Part → Type 0 where
   none : AreValues 0 []
   more : {n : ℕ} (p : Part) {held others : List Part} → AreValues (held_by p) held → AreValues n others
       → AreValues (suc n) (p ∷ (held ++ others))
 
--- so many values begin at an index of the parts, and the part at another is the first after them
+-- `n` values begin at index `at` of the parts, and the part at `end` is the first after them
 pub record HasValues (parts : List Part) (at n end : ℕ) : Type 0 where
   pub ordered : at ≤ end
   pub within : end ≤ length parts

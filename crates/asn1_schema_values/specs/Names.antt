@@ -8,7 +8,7 @@ abbrev pub name_if : Bool → List ℕ → NameSpan → Option (List ℕ)
 name_if false text s = None
 name_if true text s = Some (slice_range text s.from (s.from + s.count))
 
--- the octets of a text from an index on, so many; none where the text has fewer
+-- `count` octets of a text from an index on; none where the text has fewer
 abbrev pub name_of : List ℕ → Option NameSpan → Option (List ℕ)
 name_of text None = None
 name_of text (Some s) = name_if (nat_le (s.from + s.count) (length text)) text s

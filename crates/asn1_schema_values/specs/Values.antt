@@ -35,7 +35,7 @@ pub record IsPresent (m : Message) (row at : ℕ) (v : Value) : Type 0 where
   pub present : first ≡ part.Absent → ⊥
   pub is : IsAt m member.node at v
 
--- the value of the first member of the rows that has the name, where those of so many members begin at this part
+-- the value of the first member of the rows that has the name, where those of `count` members begin at this part
 pub record IsMember (m : Message) (rows : Rows) (from count : ℕ) (name : List ℕ) (v : Value) : Type 0 where
   pub row : ℕ
   pub named : IsFirstNamed m.names rows name row

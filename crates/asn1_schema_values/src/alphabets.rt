@@ -5,7 +5,7 @@ ghost use Rattle.asn1_schema_values.specs.Tables.{AreRows, HasCharacter, IsAscen
 
 use asn1_schema::{Range, Rows};
 
-/// Returns whether rows are rows of a table of so many.
+/// Returns whether rows are rows of a table that has `count`.
 pub(crate) fn are_rows(rows: Rows, count: usize) -> bool
     ensures { IsTrue result ↔ AreRows rows count }
 {

@@ -79,7 +79,7 @@ fn alphabets_of(node: &Node) -> Option<(Rows, Rows)>
     }
 }
 
-/// Returns whether a type that is named is one of so many.
+/// Returns whether a type that is named is one of `count`.
 fn is_type(inner: Option<usize>, count: usize) -> bool
     ensures { IsTrue result ↔ IfSome inner (λ i. i < count) }
 {
@@ -89,7 +89,7 @@ fn is_type(inner: Option<usize>, count: usize) -> bool
     }
 }
 
-/// Returns whether rows, if there are some, are rows of a table of so many.
+/// Returns whether rows, if there are some, are rows of a table that has `count`.
 fn are_rows_of(rows: Option<Rows>, count: usize) -> bool
     ensures { IsTrue result ↔ IfSome rows (λ r. AreRows r count) }
 {
@@ -133,7 +133,7 @@ fn additions_follow_marker(node: &Node) -> bool
     }
 }
 
-/// Returns whether so many additions may be where there is an extension marker, or none.
+/// Returns whether additions follow an extension marker, or there are none.
 fn follow_marker(is_extensible: bool, additions: u32) -> bool
     ensures { IsTrue result ↔ FollowMarker is_extensible additions }
 {

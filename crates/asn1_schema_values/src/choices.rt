@@ -9,7 +9,7 @@ use crate::extent::after;
 use crate::value::{Message, Value};
 use asn1_schema::{Node, Part};
 
-/// Returns the row of an alternative in a table of so many members. `None` if it is in none.
+/// Returns the row of an alternative in a table of `members` members. `None` if it is in none.
 fn row_of_alternative(node: &Node, index: usize, members: usize) -> Option<usize>
     ensures { MatchOption result
         ((row : ℕ) → alternative_row (Some node.now) index ≡ Some row → members ≤ row)

@@ -27,7 +27,7 @@ fn present_at<'v>(message: &'v Message<'v>, row: usize, at: usize) -> Option<Val
     }
 }
 
-/// Returns the value of the first member with a name, if it has one. Those of so many members of
+/// Returns the value of the first member with a name, if it has one. Those of `count` members of
 /// the rows begin at part `from`.
 fn member_value<'v>(
     message: &'v Message<'v>,

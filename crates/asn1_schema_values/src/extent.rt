@@ -28,7 +28,7 @@ fn values_held_by(part: &Part) -> Option<usize>
 
 /// Returns the index after `count` values that begin at part `at`. `None` if no part ends them.
 ///
-/// It reads each of their parts once, whatever their depth.
+/// It reads each of their parts once, at any depth.
 pub fn end_of_values(parts: &[Part], at: usize, count: usize) -> Option<usize>
     ensures { MatchOption result ((end : ℕ) → HasValues parts.now at count end → ⊥)
         (λ end. HasValues parts.now at count end) }
@@ -49,7 +49,7 @@ pub fn end_of_values(parts: &[Part], at: usize, count: usize) -> Option<usize>
 
 /// Returns the index after the value that begins at part `at`. `None` if no value begins there.
 ///
-/// It reads each of its parts once, whatever its depth.
+/// It reads each of its parts once, at any depth.
 pub fn end_of(parts: &[Part], at: usize) -> Option<usize>
     ensures { MatchOption result ((end : ℕ) → HasValues parts.now at 1 end → ⊥)
         (λ end. HasValues parts.now at 1 end) }
@@ -60,7 +60,7 @@ pub fn end_of(parts: &[Part], at: usize) -> Option<usize>
 /// Returns how many values the parts from an index on are, one after another. `None` if they are
 /// not whole values.
 ///
-/// It reads each of their parts once, whatever their depth.
+/// It reads each of their parts once, at any depth.
 pub fn values_from(parts: &[Part], from: usize) -> Option<usize>
     ensures { MatchOption result
         ((count : ℕ) → HasValues parts.now from count (length parts.now) → ⊥)

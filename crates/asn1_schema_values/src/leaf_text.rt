@@ -205,28 +205,33 @@ fn write_contents<W: fmt::Write>(
 }
 
 /// Writes octets in fragments, each in quotes.
-fn write_fragments<W: fmt::Write>(
+fn write_octets_in_fragments<W: fmt::Write>(
     f: &mut fmt::Formatter<W>,
     octets: &[u8],
     fragments: Fragments,
 ) -> fmt::Result {
-    let mut at = fragments.at;
-    for _ in 0..fragments.whole {
-        if at / 8 >= octets.len() {
+    for index in 0..octets.len() {
+        let Some(span) = fragments.span(8, index) else {
             break;
-        }
-        write_octets(
-            f,
-            octets,
-            Span {
-                at,
-                count: 8 * 65536,
-            },
-        )?;
-        at = at.saturating_add(8 * 65536 + 8);
+        };
+        write_octets(f, octets, span)?;
     }
-    write_octets(f, octets, fragments.middle)?;
-    write_octets(f, octets, fragments.last)
+    Ok(())
+}
+
+/// Writes bits in fragments, each in quotes.
+fn write_bits_in_fragments<W: fmt::Write>(
+    f: &mut fmt::Formatter<W>,
+    octets: &[u8],
+    fragments: Fragments,
+) -> fmt::Result {
+    for index in 0..octets.len() {
+        let Some(span) = fragments.span(1, index) else {
+            break;
+        };
+        write_bits(f, octets, span)?;
+    }
+    Ok(())
 }
 
 /// Writes an unknown value of an ENUMERATED by its index among the additions.
@@ -267,7 +272,8 @@ pub(crate) fn write_leaf<W: fmt::Write>(
         Part::UnknownEnumerated(index) => write_unknown(f, octets, index),
         Part::Bits(span) => write_bits(f, octets, span),
         Part::Octets(span) => write_contents(f, octets, node, span),
-        Part::OctetsInFragments(fragments) => write_fragments(f, octets, fragments),
+        Part::BitsInFragments(fragments) => write_bits_in_fragments(f, octets, fragments),
+        Part::OctetsInFragments(fragments) => write_octets_in_fragments(f, octets, fragments),
         Part::Text(text) => write_text(f, message, text),
         Part::Unknown(span) => write_octets(f, octets, span),
         _ => Ok(()),

@@ -41,7 +41,7 @@ enum Step {
     Inner,
 }
 
-/// Returns how many values from a part on are whole, at most so many, and the index of the part after
+/// Returns how many values from a part on are whole, at most `most`, and the index of the part after
 /// them.
 fn whole_values(parts: &[Part], from: usize, most: usize) -> (usize, usize) {
     let mut at = from;

@@ -12,7 +12,7 @@ use Rattle.asn1_x691.specs.Fragments.{all_units}
 use Rattle.asn1_x691.specs.Strings.{where_size, IsOfRoot, IsAddedSize}
 use Rattle.asn1_x691.specs.Alphabets.{width_of, HasCode}
 
--- so many characters begin where they are: none; those of a fixed size of up to 16 bits (30.5.6), and others of fewer than 16
+-- `n` characters begin where they are: none; those of a fixed size of up to 16 bits (30.5.6), and others of fewer than 16
 -- (30.5.7)
 abbrev pub IsInlineText : ℕ → ℕ → ℕ → ℕ → Type 0
 IsInlineText width least range n = (n ≡ 0)
@@ -34,7 +34,7 @@ module _ (aligned : Bool) (ranges : List Range) (node : ℕ) where
   character = then (number (width_of aligned ranges) Short node) (λ i c. c)
       (λ i. value_where (λ c. HasCode aligned ranges i c) NotInAlphabet node)
 
-  -- so many characters
+  -- `n` characters
   abbrev pub characters : ℕ → ℕ → Encoding FaultKind (List ℕ)
   characters n = anywhere (each character n)
 
@@ -49,7 +49,7 @@ module _ (aligned : Bool) (ranges : List Range) (node : ℕ) where
       in_turn (constrained aligned range node) (λ d text. text) (λ d. sized_characters least range (least + d))
 
 module _ (most : ℕ) (aligned : Bool) (ranges : List Range) (node : ℕ) where
-  -- characters after their number, which `Yes` permits and `No` forbids, in so many fragments at most
+  -- characters after their number, which `Yes` permits and `No` forbids, in at most `most` fragments
   abbrev pub text_where : (ℕ → Type 0) → (ℕ → Type 0) → FaultKind → ℕ → Encoding FaultKind (List ℕ)
   text_where Yes No kind =
       in_turn (all_units (characters aligned ranges node) (λ a b. a ++ b) aligned node most) (λ v text. text)

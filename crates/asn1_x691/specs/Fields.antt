@@ -1,5 +1,5 @@
 -- The fields of the packed encoding rules (X.691), both variants: `aligned` is true in the ALIGNED and false in the UNALIGNED
--- variant. At `at`, so many bits of the message precede the field.
+-- variant. `at` bits of the message precede the field.
 use Rattle.std.specs.Prelude.{◌≡◌, ◌≢◌, ℕ, ℤ, pos, negsuc, ◌+◌, ◌-◌, ◌*◌, ◌/◌, ◌%◌, ◌^◌, ◌<◌, ◌≤◌, ◌⊎◌, ⊤, Bool, true, false}
 use Rattle.asn1_characters.specs.Widths.{ceil_log2}
 use Rattle.asn1_schema.specs.Encodings.{Encoding, constant, invalid, then, cases, number, anywhere, in_turn, in_case}
@@ -8,7 +8,7 @@ use Rattle.asn1_x691.specs.declared.fault.FaultKind.TheVariants.{Short, AboveMos
 
 -- ---- bit-fields, and octet-aligned bit-fields
 
--- so many bits, all zero
+-- `count` bits, all zero
 abbrev pub zeros : ℕ → ℕ → Encoding FaultKind ⊤
 zeros count node = then (number count Short node) (λ n u. u) (λ n. cases (n ≡ 0) (constant tt) (0 < n) (invalid NotZero node))
 
@@ -37,15 +37,15 @@ width_to most = ceil_log2 (most + 1)
 abbrev pub up_to : ℕ → ℕ → ℕ → Encoding FaultKind ℕ
 up_to most node d = cases (d ≤ most) (constant d) (most < d) (invalid AboveMost node)
 
--- a number from 0 to the greatest, in so many bits (11.3)
+-- a number from 0 to the greatest, in `width` bits (11.3)
 abbrev pub in_bits : ℕ → ℕ → ℕ → Encoding FaultKind ℕ
 in_bits width most node = then (number width Short node) (λ d n. n) (λ d. up_to most node d)
 
--- how many octets so many bits need, one at least
+-- how many octets `len` bits need, one at least
 abbrev pub octets_needed : ℕ → ℕ
 octets_needed len = (len - 1) / 8 + 1
 
--- a number in so many octets, and no fewer (11.3.6)
+-- a number in `octets` octets, and no fewer (11.3.6)
 abbrev pub minimal_octets : ℕ → ℕ → Encoding FaultKind ℕ
 minimal_octets octets node = then (number (8 * octets) Short node) (λ d n. n) (λ d.
     cases ((octets ≤ 1) ⊎ (2 ^ (8 * (octets - 1)) ≤ d)) (constant d) ((1 < octets) × (d < 2 ^ (8 * (octets - 1)))) (invalid NotMinimal node))
@@ -127,7 +127,7 @@ abbrev pub small_number : Bool → ℕ → ℕ → Encoding FaultKind ℕ
 small_number aligned node = in_turn (anywhere (number 1 Short node)) (λ bit n. n) (λ bit.
     in_case (bit ≡ 0) (anywhere (number 6 Short node)) (0 < bit) (large_number aligned node))
 
--- a value in so many octets of two's complement, and no fewer: u is the number, or its distance below -1 (11.8, X.690 8.3.2)
+-- a value in `count` octets of two's complement, and no fewer: u is the number, or its distance below -1 (11.8, X.690 8.3.2)
 abbrev pub with_sign : ℕ → ℕ → ℕ → ℤ → Encoding FaultKind ℤ
 with_sign count node u z =
     cases ((count ≤ 1) ⊎ (2 ^ (8 * count - 9) ≤ u)) (constant z) ((1 < count) × (u < 2 ^ (8 * count - 9))) (invalid NotMinimal node)

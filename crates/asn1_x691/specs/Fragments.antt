@@ -24,17 +24,17 @@ units_octets node = then (number 8 Short node) (λ first n. n) (λ first. units_
 abbrev pub units_next : Bool → ℕ → ℕ → Encoding FaultKind ℕ
 units_next aligned node = on_octet aligned node (units_octets node)
 
--- so many fragments are more units than a computer counts
+-- this many fragments are more units than a computer counts
 unfoldable pub most_fragments : ℕ
 most_fragments = 281474976710656
 
--- U says of so many units how they are encoded, and `join` joins what two fragments hold
+-- U says how n units are encoded, and `join` joins what two fragments hold
 module _ {Y : Type 0} (U : ℕ → ℕ → Encoding FaultKind Y) (join : Y → Y → Y) (aligned : Bool) (node : ℕ) where
-  -- so many units, with their number
+  -- `n` units, with their number
   abbrev pub units : ℕ → ℕ → Encoding FaultKind (ℕ × Y)
   units n = in_turn (U n) (λ y u. (n, y)) (λ y. anywhere (constant (tt {0})))
 
-  -- so many units, then others
+  -- `n` units, then others
   abbrev pub units_then : ℕ → (ℕ → Encoding FaultKind (ℕ × Y)) → ℕ → Encoding FaultKind (ℕ × Y)
   units_then n R = in_turn (U n) (λ y v. (n + v.0, join y v.1)) (λ y. R)
 
@@ -47,7 +47,7 @@ module _ {Y : Type 0} (U : ℕ → ℕ → Encoding FaultKind Y) (join : Y → Y
   abbrev pub last_units : ℕ → Encoding FaultKind (ℕ × Y)
   last_units = units_below NotMinimal
 
-  -- all units, in so many fragments at most and the last units. The largest fragments come first, so one of fewer than 65,536
+  -- all units, in at most this many fragments and the last units. The largest fragments come first, so one of fewer than 65,536
   -- units is followed by the last.
   abbrev pub all_units : ℕ → ℕ → Encoding FaultKind (ℕ × Y)
   all_units zero = units_below Unsupported
@@ -55,7 +55,7 @@ module _ {Y : Type 0} (U : ℕ → ℕ → Encoding FaultKind Y) (join : Y → Y
       in_case (n < 16384) (units n) (16384 ≤ n)
       (in_case (n < 65536) (units_then n last_units) (65536 ≤ n) (units_then n (all_units more))))
 
--- units of so many bits each, as they are: BIT STRING, OCTET STRING, and strings without an upper bound (16.11, 17.8, 30.5.7)
+-- units of `unit` bits each, as they are: BIT STRING, OCTET STRING, and strings without an upper bound (16.11, 17.8, 30.5.7)
 abbrev pub bits_of_units : ℕ → ℕ → ℕ → ℕ → Encoding FaultKind (List Bool)
 bits_of_units unit node n = anywhere (raw_bits (unit * n) Short node)
 

@@ -121,7 +121,7 @@ module _ (aligned : Bool) (node : ℕ) where
   bits_by false size A = A
   bits_by true size A = permitted (AreTrimmed size) (λ bits. ¬ (AreTrimmed size bits)) NotTrimmed node A
 
--- lengths are in so many fragments at most
+-- lengths are in at most `most` fragments
 module _ (most : ℕ) (aligned : Bool) (node : ℕ) where
   -- the number of the bits where it is not fixed, and the bits (16)
   abbrev pub bit_string : Length → Bool → Bool → ℕ → TypeEncoding FaultKind

@@ -7,8 +7,9 @@ use Rattle.asn1_x691.specs.declared.fault.FaultKind.TheVariants.{Unsupported}
 use Rattle.asn1_x691.specs.Fragments.{most_fragments}
 
 pub record Limits : Type 0 where
-  -- in how many fragments the octets of an OCTET STRING may be, before the last octets (11.9.3.8)
-  pub octet_fragments : ℕ
+  -- in how many fragments the units of an OCTET STRING, of a UTF8String, or of a BIT STRING whose bits have no names, may be, before
+  -- the last units (11.9.3.8)
+  pub string_fragments : ℕ
   -- the same of all other strings, of open types and of unknown additions
   pub fragments : ℕ
   -- the same of the items of a SEQUENCE OF, and whether the items of a fragment must have bits: otherwise each octet of a message
@@ -20,7 +21,15 @@ pub record Limits : Type 0 where
 
 -- without limits
 abbrev pub no_limits : Limits
-no_limits = record { octet_fragments = most_fragments; fragments = most_fragments; item_fragments = most_fragments; fragments_have_bits = false; sets_on_octets = false }
+no_limits = record { string_fragments = most_fragments; fragments = most_fragments; item_fragments = most_fragments; fragments_have_bits = false; sets_on_octets = false }
+
+-- in how many fragments the bits of a BIT STRING may be: one limit where they have names, another where they have none
+abbrev pub by_names : Bool → ℕ → ℕ → ℕ
+by_names true named unnamed = named
+by_names false named unnamed = unnamed
+
+abbrev pub bit_fragments : Limits → Bool → ℕ
+bit_fragments limits has_names = by_names has_names limits.fragments limits.string_fragments
 
 -- an item of a SET OF, or the one whose bits precede it, does not begin at an octet
 abbrev pub IsOffOctet : Bool → Bool → List Bool → ℕ → Type 0
@@ -35,7 +44,7 @@ IsEmptyFragment true n list = (16384 ≤ n) × (list ≡ [])
 
 -- limits that the laws compare with X.691: there are no more fragments, and a SET OF is limited to octets
 pub record AreWithin (limits : Limits) : Type 0 where
-  pub octet_fragments : limits.octet_fragments ≤ most_fragments
+  pub string_fragments : limits.string_fragments ≤ most_fragments
   pub fragments : limits.fragments ≤ most_fragments
   pub item_fragments : limits.item_fragments ≤ most_fragments
   pub sets_on_octets : limits.sets_on_octets ≡ true

@@ -9,7 +9,7 @@ use Rattle.asn1_x691.specs.declared.fault.FaultKind.TheVariants.{Fragment}
 use Rattle.asn1_x691.specs.Fragments.{units_next, all_units}
 use Rattle.asn1_x691.specs.Strings.{where_size}
 
--- a permitted number of items, no more than so many fragments of 65,536 and the last items hold
+-- a permitted number of items, no more than `most` fragments of 65,536 and the last items hold
 abbrev pub IsCountable : ℕ → (ℕ → Type 0) → ℕ → Type 0
 IsCountable most Yes n = Yes n × (n < 65536 * most + 16384)
 
@@ -30,7 +30,7 @@ module _ (A : ℕ → ℕ → TypeEncoding FaultKind) (aligned : Bool) (node : �
     misfit = λ tape e. (CanEncode (units_next aligned node at).encodes n → ⊥) × IsAtPart NoEncoding node tape e;
   }
 
-  -- so many items after their number, then others
+  -- `n` items after their number, then others
   abbrev pub fragment_then : ℕ → (ℕ → TypeEncoding FaultKind) → ℕ → TypeEncoding FaultKind
   fragment_then n R = both (number_of_units n) (both (A n) R)
 
@@ -39,16 +39,16 @@ module _ (A : ℕ → ℕ → TypeEncoding FaultKind) (aligned : Bool) (node : �
   items_below true n = fragment_then n nothing
   items_below false n = fragment_then (16384 * (n / 16384)) (fragment_then (n % 16384) nothing)
 
-  -- so many fragments of 65,536 items, then others
+  -- `n` fragments of 65,536 items, then others
   abbrev pub whole_fragments_then : ℕ → (ℕ → TypeEncoding FaultKind) → ℕ → TypeEncoding FaultKind
   whole_fragments_then zero R = R
   whole_fragments_then (suc n) R = fragment_then 65536 (whole_fragments_then n R)
 
-  -- so many items
+  -- `n` items
   abbrev pub items_in_fragments : ℕ → ℕ → TypeEncoding FaultKind
   items_in_fragments n = whole_fragments_then (n / 65536) (items_below (nat_lt (n % 65536) 16384) (n % 65536))
 
-  -- ---- a list whose number of items `Yes` permits and `No` forbids, in so many fragments at most
+  -- ---- a list whose number of items `Yes` permits and `No` forbids, in at most `most` fragments
 
   abbrev pub ListMisfit : ℕ → (ℕ → Type 0) → ℕ → Piece → Parts → Misfit → Type 0
   ListMisfit most Yes at p rest e =

@@ -9,12 +9,12 @@ use Rattle.asn1_x691.specs.declared.fault.FaultKind.TheVariants.{NotZero, ExtraO
 use Rattle.asn1_x691.specs.Fields.{to_octet}
 use Rattle.asn1_x691.specs.Fragments.{octets}
 
--- how many zeros follow so many bits: to whole octets, of which there is one at least (11.1.3)
+-- how many zeros follow a number of bits: to whole octets, of which there is one at least (11.1.3)
 abbrev pub padding_of : ℕ → ℕ
 padding_of zero = 8
 padding_of (suc n) = to_octet (suc n)
 
--- the zeros after so many bits, and nothing else
+-- the zeros after `n` bits, and nothing else
 abbrev pub padding : ℕ → ℕ → Contents FaultKind ⊤
 padding node n = record {
   fills = λ u list. (length list ≡ padding_of n) × (list ≡ digits 0 (length list));
@@ -26,7 +26,7 @@ padding node n = record {
 abbrev pub complete : ℕ → (ℕ → TypeEncoding FaultKind) → Contents FaultKind Parts
 complete node A = then_contents (with_bits (A 0).encoding) (λ v u. v.0) (λ v. padding node (length v.1))
 
--- octets after their number, in so many fragments at most; they are contents of something
+-- octets after their number, in at most `most` fragments; they are contents of something
 abbrev pub enclosing : ℕ → Bool → ℕ → ℕ → Encoding FaultKind (⊤ × List Bool)
 enclosing most aligned node = in_turn (octets most aligned node) (λ contents u. (u, contents)) (λ contents. anywhere (constant tt))
 

@@ -17,7 +17,7 @@ first_of (b ∷ bits) = b
 abbrev pub bit : ℕ → Encoding FaultKind Bool
 bit node = then (raw_bits 1 Short node) (λ bits b. b) (λ bits. constant (first_of bits))
 
--- so many units begin where they are: none, and those of a fixed size of up to 16 bits (16.9, 17.6)
+-- `n` units begin where they are: none, and those of a fixed size of up to 16 bits (16.9, 17.6)
 abbrev pub IsInline : ℕ → ℕ → ℕ → ℕ → Type 0
 IsInline unit least range n = (n ≡ 0) ⊎ ((range ≡ 0) × (unit * least ≤ 16))
 
@@ -25,7 +25,7 @@ IsInline unit least range n = (n ≡ 0) ⊎ ((range ≡ 0) × (unit * least ≤ 
 abbrev pub IsOnOctet : ℕ → ℕ → ℕ → ℕ → Type 0
 IsOnOctet unit least range n = (0 < n) × ((0 < range) ⊎ (16 < unit * least))
 
--- so many units
+-- `n` units
 abbrev pub units_of : Bool → ℕ → ℕ → ℕ → ℕ → ℕ → ℕ → Encoding FaultKind (List Bool)
 units_of aligned unit least range node n =
     in_case (IsInline unit least range n) (anywhere (raw_bits (unit * n) Short node)) (IsOnOctet unit least range n)
@@ -36,7 +36,7 @@ abbrev pub sized_string : Bool → ℕ → ℕ → ℕ → ℕ → ℕ → Encod
 sized_string aligned unit least range node =
     in_turn (constrained aligned range node) (λ d bits. bits) (λ d. units_of aligned unit least range node (least + d))
 
--- units after their number, of which there are as many as `Yes` permits and `No` forbids, in so many fragments at most
+-- units after their number, of which there are as many as `Yes` permits and `No` forbids, in at most `most` fragments
 abbrev pub where_size : {X : Type 0} → (ℕ → Type 0) → (ℕ → Type 0) → FaultKind → ℕ → ℕ × X → ℕ → Encoding FaultKind X
 where_size Yes No kind node v = anywhere (cases (Yes v.0) (constant v.1) (No v.0) (invalid kind node))
 
@@ -47,7 +47,7 @@ string_where most aligned unit Yes No kind node =
 abbrev pub long_string : ℕ → Bool → ℕ → ℕ → ℕ → ℕ → Encoding FaultKind (List Bool)
 long_string most aligned unit least node = string_where most aligned unit (λ n. least ≤ n) (λ n. n < least) BelowLeast node
 
--- a string of units of so many bits, by its size constraint
+-- a string of units of `unit` bits, by its size constraint
 abbrev pub string_of : ℕ → Bool → ℕ → Length → ℕ → ℕ → Encoding FaultKind (List Bool)
 string_of most aligned unit (AtLeast least) node = long_string most aligned unit least node
 string_of most aligned unit (Between least range) node = sized_string aligned unit least range node

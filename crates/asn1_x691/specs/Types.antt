@@ -23,7 +23,7 @@ use Rattle.asn1_x691.specs.declared.fault.FaultKind.TheVariants.{Short, BelowLea
 use Rattle.asn1_x691.specs.Fields.{phase, constrained, length_of, small_length, small_number}
 use Rattle.asn1_x691.specs.Fragments.{octets}
 use Rattle.asn1_x691.specs.Strings.{bit, IsOfRoot, IsAddedSize}
-use Rattle.asn1_x691.specs.Limits.{Limits, IsOffOctet, IsEmptyFragment}
+use Rattle.asn1_x691.specs.Limits.{Limits, bit_fragments, IsOffOctet, IsEmptyFragment}
 use Rattle.asn1_x691.specs.OpenTypes.{open_type}
 use Rattle.asn1_x691.specs.Lists.{list_where}
 use Rattle.asn1_x691.specs.Contents.{IsObjectIdentifier, IsRelativeIdentifier, IsUtf8Text}
@@ -96,7 +96,7 @@ abbrev pub any_true : List Bool → Bool
 any_true [] = false
 any_true (b ∷ bits) = b || any_true bits
 
--- `defaults` has the bits that encode a default value after so many bits of an octet, where the tables have it
+-- `defaults` has the bits that encode a default value after a number of bits of an octet, where the tables have it
 module _ (limits : Limits) (aligned : Bool) (E : ℕ → ℕ → TypeEncoding FaultKind) (members : List Member) (ranges : List Range)
     (defaults : ℕ → ℕ → Option (List Bool)) (node : ℕ) where
   -- ---- SEQUENCE (19)
@@ -122,7 +122,7 @@ module _ (limits : Limits) (aligned : Bool) (E : ℕ → ℕ → TypeEncoding Fa
   component None F = no_component
   component (Some m) F = component_by m.presence (value_by m.presence (E m.node)) F
 
-  -- so many components, which are members from an index on
+  -- `count` components, which are members from an index on
   abbrev pub components : ℕ → ℕ → ℕ → AfterHeader FaultKind (List Bool)
   components zero from = end_of_components NoNode node
   components (suc count) from = component (slice_get members from) (components count (from + 1))
@@ -144,7 +144,7 @@ module _ (limits : Limits) (aligned : Bool) (E : ℕ → ℕ → TypeEncoding Fa
   addition zero from = leaf (octets limits.fragments aligned node) Unknown node
   addition (suc known) from = known_addition (slice_get members from)
 
-  -- so many additions, of which the known ones are members from an index on; a bit tells of each whether it is present
+  -- `count` additions, of which the known ones are members from an index on; a bit tells of each whether it is present
   abbrev pub additions_by_bits : ℕ → ℕ → ℕ → ℕ → AfterHeader FaultKind (List Bool)
   additions_by_bits zero known from = end_of_components NoNode node
   additions_by_bits (suc count) known from =
@@ -179,12 +179,12 @@ module _ (limits : Limits) (aligned : Bool) (E : ℕ → ℕ → TypeEncoding Fa
   in_order item before at = except_type (IsMisplaced aligned (E item) before at) NotAscending misfit.NotAscending node
       (except_type (λ list. IsOffOctet limits.sets_on_octets aligned before at) Unsupported misfit.Unsupported node (E item at))
 
-  -- so many items; those of a SET OF in ascending order (22.1)
+  -- `n` items; those of a SET OF in ascending order (22.1)
   abbrev pub items : Bool → ℕ → ℕ → ℕ → TypeEncoding FaultKind
   items false item n = several (E item) n
   items true item n = several_by_bits (in_order item) [] n
 
-  -- so many items of a SEQUENCE OF in a fragment, or after all fragments
+  -- `n` items of a SEQUENCE OF in a fragment, or after all fragments
   abbrev pub fragment_items : ℕ → ℕ → ℕ → TypeEncoding FaultKind
   fragment_items item n at =
       except_type (λ list. IsEmptyFragment limits.fragments_have_bits n list) Unsupported misfit.Unsupported node (several (E item) n at)
@@ -256,14 +256,14 @@ module _ (limits : Limits) (aligned : Bool) (E : ℕ → ℕ → TypeEncoding Fa
   type_of (Some (type.IntegerAtLeast bound is_extensible)) = integer_at_least_by aligned node is_extensible bound.least
   type_of (Some type.Integer) = integer aligned node
   type_of (Some (type.Enumerated last is_extensible known)) = enumerated_by aligned node is_extensible last known
-  type_of (Some (type.BitString size is_extensible has_names)) = bit_string limits.fragments aligned node size is_extensible has_names
-  type_of (Some (type.OctetString size is_extensible)) = octet_string limits.octet_fragments aligned node size is_extensible
+  type_of (Some (type.BitString size is_extensible has_names)) = bit_string (bit_fragments limits has_names) aligned node size is_extensible has_names
+  type_of (Some (type.OctetString size is_extensible)) = octet_string limits.string_fragments aligned node size is_extensible
   type_of (Some (type.Text size is_extensible alphabet whole)) =
       text limits.fragments aligned node size is_extensible (slice_range ranges alphabet.from (alphabet.from + alphabet.count))
       (slice_range ranges whole.from (whole.from + whole.count))
   type_of (Some type.ObjectIdentifier) = contents limits.fragments aligned node IsObjectIdentifier
   type_of (Some type.RelativeIdentifier) = contents limits.fragments aligned node IsRelativeIdentifier
-  type_of (Some type.Utf8String) = contents limits.fragments aligned node IsUtf8Text
+  type_of (Some type.Utf8String) = contents limits.string_fragments aligned node IsUtf8Text
   type_of (Some type.Real) = contents limits.fragments aligned node IsReal
   type_of (Some (type.Time kind)) = time limits.fragments aligned node (IsTime kind)
   type_of (Some (type.Sequence root is_extensible known)) = sequence_by is_extensible root known

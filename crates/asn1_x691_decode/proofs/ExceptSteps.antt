@@ -1,4 +1,4 @@
--- Steps over a value of whose bits a condition must not hold.
+-- Steps over a value of whose bits a property must not hold.
 use Rattle.std.proofs.Common.{◌≡◌, ℕ, ◌+◌, ◌-◌, List, ◌++◌, Bool, length, take, drop, refl, sym, ◌∙◌, ap, arith, inr}
 use Rattle.asn1_bits.specs.Bits.{bits}
 use Rattle.asn1_schema.specs.declared.misfit.MisfitKind.{MisfitKind}

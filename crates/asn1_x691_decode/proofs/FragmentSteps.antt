@@ -30,7 +30,7 @@ module _ (c : Context) where
   abbrev Are : (ℕ × Parts → List Bool → Type 0) → State → State → List Part → List Part → ℕ → Type 0
   Are P old new was now n = AreDecoded c.tables.ranges.now P list old new was now n
 
-  -- what `rule` says from here on, after so many items, `whole` says of all
+  -- what `rule` says from here on, after `count` items, `whole` says of all
   pub record AreUnderway (whole rule : Numbered) (old now : State) (was is : List Part) (count : ℕ) : Type 0 where
     pub done : (n all : ℕ) (new : State) (next : List Part) → all ≡ count + n → Are (rule (position now)).encodes now new is next n
         → Are (whole (position old)).encodes old new was next all
@@ -84,7 +84,7 @@ module _ (c : Context) where
     abbrev pub Last : FaultKind → Numbered
     Last kind = last_items_in c depth node item kind
 
-    -- what follows a number, where so many more fragments may follow
+    -- what follows a number, where `more` more fragments may follow
     abbrev pub After : ℕ → ℕ → Numbered
     After more n = in_case (n < 16384) (Few n) (16384 ≤ n)
         (in_case (n < 65536) (Then n (Last NotMinimal)) (65536 ≤ n) (Then n (All more)))
@@ -108,7 +108,7 @@ module _ (c : Context) where
 
     module _ (n : ℕ) (old now : State) (was is : List Part) (h : IsWithin list old) (g : IsMoved list old now)
         (d : IsDecoded c.tables.ranges.now (U n (position old)).encodes list old now was is) where
-      -- so many items, then others
+      -- `n` items, then others
       then_step : (R : Numbered) → AreUnderway (Then n R) R old now was is n
       then_step R = record {
         done = λ k all new next e r.

@@ -93,7 +93,7 @@ module _ (c : Context) where
       → Outcome c A old new was is r → (A (position old)).fault (rest list old) (fault_of new)
   by_false A old new was is r e o = subst (λ (b : Bool). Outcome c A old new was is b) e o
 
-  -- the same outcome for a step that went wrong
+  -- the same outcome for a step that failed
   pub fails_on : (A B : ℕ → Encoding FaultKind Parts) (old now new : State) (was is next : List Part) → IsUnderway A B old now was is
       → (B (position now)).fault (rest list now) (fault_of new)
       → (A (position old)).fault (rest list old) (fault_of new)

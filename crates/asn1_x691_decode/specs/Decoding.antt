@@ -31,16 +31,16 @@ use Rattle.asn1_schema.specs.Room.{IsGrown}
 
 -- ---- a schema
 
--- in so many fragments of 65,536 the items of a SEQUENCE OF are decoded: up to 2^48 items
+-- in this many fragments of 65,536 the items of a SEQUENCE OF are decoded: up to 2^48 items
 unfoldable pub most_item_fragments : ℕ
 most_item_fragments = 4294967296
 
--- the limits of the decoder: fragments of an OCTET STRING, and of a SEQUENCE OF whose items have bits, alone; and items of a SET OF that
+-- the limits of the decoder: fragments of a BIT STRING, an OCTET STRING, a UTF8String, and of a SEQUENCE OF whose items have bits, alone; and items of a SET OF that
 -- begin at octets in the ALIGNED variant
 abbrev pub decoder_limits : Limits
-decoder_limits = record { octet_fragments = most_fragments; fragments = 0; item_fragments = most_item_fragments; fragments_have_bits = true; sets_on_octets = true }
+decoder_limits = record { string_fragments = most_fragments; fragments = 0; item_fragments = most_item_fragments; fragments_have_bits = true; sets_on_octets = true }
 
--- the bits that encode a default value after so many bits of an octet
+-- the bits that encode a default value after a number of bits of an octet
 abbrev pub defaults_in : Context → ℕ → ℕ → Option (List Bool)
 defaults_in c = default_in c.defaults c.is_aligned
 
@@ -63,7 +63,7 @@ Outcome c A old new was now true = IsDecoded c.tables.ranges.now (A (position ol
 Outcome c A old new was now false =
     (A (position old)).fault (rest (bits c.octets.now) old) (fault_of new)
 
--- items were found, of which the bits from the old index to the new one are an encoding, with so many as their number
+-- items were found, of which the bits from the old index to the new one are an encoding, with `count` as their number
 pub record AreDecoded (ranges : List Range) (P : ℕ × Parts → List Bool → Type 0) (list : List Bool) (old new : State) (was now : List Part)
     (count : ℕ) : Type 0 where
   pub items : Parts
@@ -157,18 +157,18 @@ module _ (c : Context) (depth node : ℕ) where
   abbrev pub added_list_in : Bool → Length → ℕ → ℕ → TypeEncoding FaultKind
   added_list_in = added_items decoder_limits c.is_aligned (types c depth) c.tables.members.now c.tables.ranges.now defaults node
 
-  -- so many items in a fragment, or after all fragments
+  -- a number of items in a fragment, or after all fragments
   abbrev pub fragment_in : ℕ → ℕ → ℕ → TypeEncoding FaultKind
   fragment_in = fragment_items decoder_limits c.is_aligned (types c depth) c.tables.members.now c.tables.ranges.now defaults node
 
-  -- items after their number, in so many fragments at most; and the last ones, where a fragment has a fault of a kind
+  -- items after their number, in at most `most` fragments; and the last ones, where a fragment has a fault of a kind
   abbrev pub numbered_in : ℕ → ℕ → ℕ → Encoding FaultKind (ℕ × Parts)
   numbered_in item most = numbered_items (fragment_in item) c.is_aligned node most
 
   abbrev pub last_items_in : ℕ → FaultKind → ℕ → Encoding FaultKind (ℕ × Parts)
   last_items_in item kind = units_below (λ n at. (fragment_in item n at).encoding) (λ xs ys. xs ++ ys) c.is_aligned node kind
 
-  -- an item that is not before the one of these bits, and so many of them
+  -- an item that is not before the one of these bits, and a number of them
   abbrev pub in_order_in : ℕ → List Bool → ℕ → TypeEncoding FaultKind
   in_order_in = in_order decoder_limits c.is_aligned (types c depth) c.tables.members.now c.tables.ranges.now defaults node
 

@@ -34,7 +34,7 @@ module _ (c : Context) where
   abbrev pub IsFirstFault : ℕ → ℕ → FoundFault → Type 0
   IsFirstFault depth node e = (complete node (types c depth node)).fault message (named e)
 
-  -- so many first bits of the message encode these parts, which are one value
+  -- the first `p.bits` bits of the message encode these parts, which are one value
   pub record IsPrefix (depth node : ℕ) (room : List Part) (p : Prefix) : Type 0 where
     pub parts : Parts
     pub starts : Starts (types c depth node 0).encoding.encodes message parts (drop p.bits message)

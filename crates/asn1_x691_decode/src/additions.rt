@@ -16,7 +16,7 @@ use asn1_schema::{Part, Rows};
 use asn1_x691::FaultKind;
 use asn1_x691_fields::{State, fail, next_bits, next_octets, next_small_length};
 
-/// Decodes the additions of a SEQUENCE: their number, the bits that tell which of them are present,
+/// Decodes the additions of a SEQUENCE: their number, their presence bits,
 /// and these (X.691 19.7 to 19.9).
 #[inline(never)]
 #[cycle(decoding)]
@@ -52,7 +52,7 @@ pub(crate) fn decode_extension(
     decode_additions(context, depth, node, known, presence, state, parts)
 }
 
-/// Decodes additions, of which bits tell whether they are present.
+/// Decodes additions, whose presence bits were read.
 #[cycle(decoding)]
 pub(crate) fn decode_additions(
     context: &Context<'_>,

@@ -10,7 +10,7 @@ use asn1_bits::read_bits;
 use asn1_x691::FaultKind;
 use asn1_x691_fields::{State, fail};
 
-/// Returns how many zeros follow a value of so many bits: to whole octets, of which there is one at
+/// Returns how many zeros follow a value of `count` bits: to whole octets, of which there is one at
 /// least (X.691 11.1.3).
 fn padding_of(count: usize) -> usize
     ensures value { result ≡ padding_of count }

@@ -126,7 +126,7 @@ fn decode_last_items(
 }
 
 /// Decodes the items after a number. A fragment whose items have no bits exceeds a limit: each octet of
-/// a message could tell of 65,536 items.
+/// a message could announce 65,536 items.
 #[cycle(decoding)]
 fn decode_fragment(
     context: &Context<'_>,
@@ -156,7 +156,7 @@ fn decode_fragment(
     true
 }
 
-/// Returns whether so many items, of so many bits together, are a fragment of items without bits.
+/// Returns whether `count` items, of `size` bits together, are a fragment of items without bits.
 fn is_empty_fragment(count: usize, size: usize) -> bool
     ensures { (list : List Bool) → length list ≡ size → Decides result (IsEmptyFragment true count list) }
 {

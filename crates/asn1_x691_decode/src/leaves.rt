@@ -11,10 +11,11 @@ ghost use Rattle.asn1_x691.specs.Characters.{text_of};
 ghost use Rattle.asn1_x691.specs.Contents.{IsObjectIdentifier, IsRelativeIdentifier, IsUtf8Text};
 ghost use Rattle.asn1_x691.specs.Fragments.{most_fragments};
 ghost use Rattle.asn1_x691.specs.Leaves.{integer_between_by, integer_at_least_by, integer, enumerated_by, bit_string, octet_string, text, contents, time};
+ghost use Rattle.asn1_x691.specs.Limits.{bit_fragments};
 ghost use Rattle.asn1_x691.specs.Strings.{bit};
 ghost use Rattle.asn1_x691_fields.specs.Characters.{rows_of};
 ghost use Rattle.asn1_x691_fields.specs.Outcomes.{IsWithin, IsMoved, IsPlaced};
-ghost use Rattle.asn1_x691_decode.specs.Decoding.{Outcome};
+ghost use Rattle.asn1_x691_decode.specs.Decoding.{Outcome, decoder_limits};
 
 use crate::context::Context;
 use crate::room::{keep, push};
@@ -168,7 +169,7 @@ pub(crate) fn decode_bit_string(
     requires within { IsWithin (bits context.now.octets.now) state.old }
     requires placed { IsPlaced context.now.is_aligned state.old }
     ensures moved { IsMoved (bits context.now.octets.now) state.old state.new }
-    ensures did { Outcome context.now (λ at. (bit_string 0 context.now.is_aligned node size.now is_extensible has_names at).encoding)
+    ensures did { Outcome context.now (λ at. (bit_string (bit_fragments decoder_limits has_names) context.now.is_aligned node size.now is_extensible has_names at).encoding)
         state.old state.new parts.old parts.new result }
 {
     let part = next_bit_string(
@@ -349,7 +350,7 @@ pub(crate) fn decode_utf8_string(
     requires within { IsWithin (bits context.now.octets.now) state.old }
     requires placed { IsPlaced context.now.is_aligned state.old }
     ensures moved { IsMoved (bits context.now.octets.now) state.old state.new }
-    ensures did { Outcome context.now (λ at. (contents 0 context.now.is_aligned node IsUtf8Text at).encoding)
+    ensures did { Outcome context.now (λ at. (contents most_fragments context.now.is_aligned node IsUtf8Text at).encoding)
         state.old state.new parts.old parts.new result }
 {
     let part = next_utf8_string(context.octets, context.is_aligned, node, state);

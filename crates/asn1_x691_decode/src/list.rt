@@ -208,7 +208,7 @@ fn decode_added_set(
     decode_each(context, depth, node, true, item, count, state, parts)
 }
 
-/// Decodes so many items of a SEQUENCE OF or of a SET OF.
+/// Decodes `count` items of a SEQUENCE OF or of a SET OF.
 #[cycle(decoding)]
 fn decode_each(
     context: &Context<'_>,
@@ -233,7 +233,7 @@ fn decode_each(
     decode_items(context, depth, item, count, state, parts)
 }
 
-/// Decodes so many items of a SEQUENCE OF.
+/// Decodes `count` items of a SEQUENCE OF.
 #[cycle(decoding)]
 pub(crate) fn decode_items(
     context: &Context<'_>,

@@ -1,4 +1,4 @@
-//! Bits that tell which components are present (X.691 19.2, 19.3).
+//! Presence bits of components (X.691 19.2, 19.3).
 
 ghost use Rattle.std.specs.Prelude.{◌≡◌, ◌+◌, ◌-◌, ◌*◌, ◌≤◌, ◌^◌, ◌<◌, length, slice_get, Some, IfSome};
 ghost use Rattle.asn1_bits.specs.Bits.{bits};
@@ -8,7 +8,7 @@ ghost use Rattle.asn1_x691_decode.specs.Decoding.{IsTold, told_by};
 use asn1_bits::read_bits;
 use asn1_schema::{Member, Presence, Rows};
 
-/// Bits of a message that tell, one after another, which components are present.
+/// Bits of a message that say, one after another, which components are present.
 #[derive(Clone, Copy, Debug)]
 pub struct PresenceBits {
     /// The index of the next.
@@ -35,7 +35,7 @@ pub(crate) fn next_presence(octets: &[u8], presence: &mut PresenceBits) -> Optio
     Some(read_bits(octets, at, 1) == 1)
 }
 
-/// Returns whether a bit tells that a component is present.
+/// Returns whether a bit says that a component is present.
 pub(crate) fn has_one(octets: &[u8], presence: PresenceBits) -> bool
     requires size { 8 * length octets.now < 2 ^ 64 }
     requires within { presence.at + presence.left ≤ 8 * length octets.now }
@@ -50,7 +50,7 @@ pub(crate) fn has_one(octets: &[u8], presence: PresenceBits) -> bool
     false
 }
 
-/// Returns how many of so many members from an index on there are.
+/// Returns how many of the members of these rows there are.
 pub(crate) fn known_of(members: &[Member], rows: Rows) -> usize
     ensures few { result ≤ rows.count }
     ensures inside { result ≤ length members.now - rows.from }

@@ -67,7 +67,7 @@ pub(crate) fn decode_sequence(
     decode_extension(context, depth, node, additions, state, parts)
 }
 
-/// Decodes the root of a SEQUENCE: the bits that tell which components are present, and these
+/// Decodes the root of a SEQUENCE: the presence bits of its components, and these
 /// (X.691 19.2 to 19.4).
 #[inline(always)]
 #[cycle(decoding)]
@@ -101,7 +101,7 @@ pub(crate) fn decode_root(
     }
 }
 
-/// Decodes components, of which bits tell whether they are present.
+/// Decodes components, whose presence bits were read.
 #[inline(always)]
 #[cycle(decoding)]
 pub(crate) fn decode_components(

@@ -14,7 +14,7 @@ use asn1_schema::Part;
 use asn1_x691::FaultKind;
 use asn1_x691_fields::{State, fail, is_before};
 
-/// Decodes so many items, each of which is not before the one that it follows.
+/// Decodes `count` items, each of which is not before the one that it follows.
 #[cycle(decoding)]
 pub(crate) fn decode_set_items(
     context: &Context<'_>,
@@ -84,7 +84,7 @@ fn decode_item(
     true
 }
 
-/// Returns whether an item at a position, or the one of so many bits that it follows, does not begin
+/// Returns whether an item at a position, or the one of `count` bits that it follows, does not begin
 /// at an octet, which exceeds the limit of the decoder in the ALIGNED variant.
 fn is_off_octet(is_aligned: bool, count: usize, position: usize) -> bool
     ensures { (list : List Bool) → length list ≡ count → Decides result (IsOffOctet true is_aligned list position) }

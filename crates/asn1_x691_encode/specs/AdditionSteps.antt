@@ -59,7 +59,7 @@ module _ (c : Context) (depth node : ℕ) (was now : List ℕ) (old new : Writer
 
 module _ (c : Context) (depth node : ℕ) (known : Rows) (index : ℕ) (was now : List ℕ)
     (old new : Writer) (r : Bool) where
-  -- what holds of the addition that so many known ones begin with
+  -- what holds of the addition that `n` known ones begin with
   first_known : (n : ℕ) (P : (ℕ → TypeEncoding FaultKind) → Type 0) → 0 < n
       → P (known_in c depth node (slice_get c.tables.members.now (known.from + index)))
       → P (addition_in c depth node n (known.from + index))
@@ -79,7 +79,7 @@ module _ (c : Context) (depth node : ℕ) (known : Rows) (index : ℕ) (was now 
       let e : 0 ≡ known.count - index = omega (arith, many) in
       subst (λ (n : ℕ). Outcome c (addition_in c depth node n (known.from + index)) was old now new r) e o
 
--- ---- so many additions
+-- ---- a number of additions
 
 module _ (c : Context) (depth node : ℕ) (W : ℕ → AfterHeader FaultKind (List Bool)) (width : ℕ)
     (first : List ℕ) (start : ℕ) (mid : Writer) where

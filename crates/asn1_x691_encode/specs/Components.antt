@@ -65,7 +65,7 @@ pub record AreMisfit (c : Context) (F : ℕ → AfterHeader FaultKind (List Bool
   pub first : (at : ℕ) → IsAlike c.is_aligned at old.at
       → (F at).misfit (tape c old.next) (record { node = new.node; left = length (tape c new.next); kind = kind })
 
--- The presence bits, of which so many are left as zeros, and the components follow what the octets held. The next presence bit is at
+-- The presence bits, of which `left` are left as zeros, and the components follow what the octets held. The next presence bit is at
 -- `head`.
 pub record AreUnderway (c : Context) (W R : ℕ → AfterHeader FaultKind (List Bool)) (width left : ℕ) (first : List ℕ) (start : ℕ) (mid : Writer)
     (now : List ℕ) (new : Writer) (head : ℕ) : Type 0 where

@@ -12,7 +12,7 @@ use Rattle.asn1_x691_encode.specs.declared.context.Context.{Context}
 use Rattle.asn1_x691_encode.specs.Encoding.{tape, value_in, IsLeft}
 
 module _ (c : Context) (depth node : ℕ) (p : Presence) (inner : ℕ) where
-  -- so many octets are a complete encoding of the next parts, and were written after their number
+  -- `count` octets are a complete encoding of the next parts, and were written after their number
   pub record IsEnclosed (was : List ℕ) (old : Writer) (now : List ℕ) (new : Writer) : Type 0 where
     pub parts : Parts
     pub contents : List Bool

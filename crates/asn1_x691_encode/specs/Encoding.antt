@@ -23,7 +23,7 @@ use Rattle.asn1_x691_writers.specs.declared.contents.ContentsKind.{ContentsKind}
 use Rattle.asn1_x691_writers.specs.declared.contents.ContentsKind.TheVariants as kind
 use Rattle.asn1_x691_writers.specs.declared.state.Writer.{Writer}
 use Rattle.asn1_x691_writers.specs.declared.state.Rejection.TheVariants.{Misfit, Unsupported, NoRoom}
-use Rattle.asn1_x691_writers.specs.Put.{piece_in, IsFarInteger, IsFarIndex, IsInFragments}
+use Rattle.asn1_x691_writers.specs.Put.{piece_in, IsFarInteger, IsFarIndex, IsInFragments, AreBitsInFragments}
 use Rattle.asn1_x691_writers.specs.Written.{IsAlike, IsWritten}
 use Rattle.asn1_x691_encode.specs.declared.context.Context.{Context}
 
@@ -31,7 +31,7 @@ use Rattle.asn1_x691_encode.specs.declared.context.Context.{Context}
 abbrev pub tape : Context → ℕ → Parts
 tape c next = map (piece_in c.tables.ranges.now c.source.now) (drop next c.parts.now)
 
--- the bits that encode a default value after so many bits of an octet
+-- the bits that encode a default value after a number of bits of an octet
 abbrev pub defaults_in : Context → ℕ → ℕ → Option (List Bool)
 defaults_in c = default_in c.defaults c.is_aligned
 
@@ -39,7 +39,7 @@ defaults_in c = default_in c.defaults c.is_aligned
 abbrev pub types : Context → ℕ → ℕ → ℕ → TypeEncoding FaultKind
 types c depth node = type_at no_limits c.is_aligned c.tables.nodes.now c.tables.members.now c.tables.ranges.now (defaults_in c) depth node
 
--- so many items that are nested less deep than the depth, those of a SET OF in ascending order; and an item after the bits of another
+-- `n` items that are nested less deep than the depth, those of a SET OF in ascending order; and an item after the bits of another
 abbrev pub items_in : Context → ℕ → ℕ → Bool → ℕ → ℕ → ℕ → TypeEncoding FaultKind
 items_in c depth node is_set item n =
     items no_limits c.is_aligned (types c depth) c.tables.members.now c.tables.ranges.now (defaults_in c) node is_set item n
@@ -65,7 +65,7 @@ abbrev pub added_list_in : Context → ℕ → ℕ → Bool → Length → ℕ �
 added_list_in c depth node is_set size item =
     added_items no_limits c.is_aligned (types c depth) c.tables.members.now c.tables.ranges.now (defaults_in c) node is_set size item
 
--- so many items of a SEQUENCE OF in a fragment, all items after their number, and fewer than 65,536
+-- `n` items of a SEQUENCE OF in a fragment, all items after their number, and fewer than 65,536
 abbrev pub fragment_in : Context → ℕ → ℕ → ℕ → ℕ → ℕ → TypeEncoding FaultKind
 fragment_in c depth node item n =
     fragment_items no_limits c.is_aligned (types c depth) c.tables.members.now c.tables.ranges.now (defaults_in c) node item n
@@ -94,8 +94,8 @@ alternative_in c depth node rows i =
     alternative_if no_limits c.is_aligned (types c depth) c.tables.members.now c.tables.ranges.now (defaults_in c) node
     (nat_lt i rows.count) (slice_get c.tables.members.now (rows.from + i))
 
--- a SEQUENCE without an extension marker, of components that are nested less deep than the depth, what follows its first part, and so
--- many components, which are members from an index on
+-- a SEQUENCE without an extension marker, of components that are nested less deep than the depth, what follows its first part, and its
+-- components, which are members from an index on
 abbrev pub sequence_in : Context → ℕ → ℕ → Rows → ℕ → TypeEncoding FaultKind
 sequence_in c depth node root =
     sequence no_limits c.is_aligned (types c depth) c.tables.members.now c.tables.ranges.now (defaults_in c) node root
@@ -108,7 +108,7 @@ abbrev pub components_in : Context → ℕ → ℕ → ℕ → ℕ → ℕ → A
 components_in c depth node count from =
     components no_limits c.is_aligned (types c depth) c.tables.members.now c.tables.ranges.now (defaults_in c) node count from
 
--- a SEQUENCE that has an extension marker, its root with additions, what follows the root, and so many additions, which are members from
+-- a SEQUENCE that has an extension marker, its root with additions, what follows the root, and its additions, which are members from
 -- an index on
 abbrev pub extensible_sequence_in : Context → ℕ → ℕ → Rows → Rows → ℕ → TypeEncoding FaultKind
 extensible_sequence_in c depth node root known =
@@ -121,7 +121,7 @@ extension_in c depth node known =
 abbrev pub extended_in : Context → ℕ → ℕ → Rows → Rows → ℕ → TypeEncoding FaultKind
 extended_in c depth node root known = both (root_in c depth node root) (extension_in c depth node known)
 
--- so many additions after the bits that tell which of them are present
+-- `count` additions after the bits that tell which of them are present
 abbrev pub present_additions_in : Context → ℕ → ℕ → Rows → ℕ → ℕ → TypeEncoding FaultKind
 present_additions_in c depth node known count =
     header (raw_bits count Short node) count
@@ -131,7 +131,7 @@ abbrev pub additions_in : Context → ℕ → ℕ → ℕ → ℕ → ℕ → �
 additions_in c depth node count known from =
     additions_by_bits no_limits c.is_aligned (types c depth) c.tables.members.now c.tables.ranges.now (defaults_in c) node count known from
 
--- an addition, which is known where so many are; and a known one
+-- an addition, which is known unless `known` is 0; and a known one
 abbrev pub addition_in : Context → ℕ → ℕ → ℕ → ℕ → ℕ → TypeEncoding FaultKind
 addition_in c depth node known from =
     addition no_limits c.is_aligned (types c depth) c.tables.members.now c.tables.ranges.now (defaults_in c) node known from
@@ -164,18 +164,19 @@ pub record IsFirstMisfit (c : Context) (A : ℕ → TypeEncoding FaultKind) (old
 
 -- ---- what is not encoded yet
 
--- the next part is octets in fragments
-pub record IsFragmented (c : Context) (next : ℕ) : Type 0 where
+-- the next part is in fragments, of octets or of bits
+pub record IsFragmented (c : Context) (InFragments : Part → Type 0) (next : ℕ) : Type 0 where
   pub part : Part
   pub is : slice_get c.parts.now next ≡ Some part
-  pub in_fragments : IsInFragments part
+  pub in_fragments : InFragments part
 
--- REAL, identifiers and UTF-8 in fragments
+-- BIT STRING, REAL, identifiers and UTF-8 in fragments
 abbrev pub IsLater : Context → ℕ → Option Node → Type 0
-IsLater c next (Some type.ObjectIdentifier) = IsFragmented c next
-IsLater c next (Some type.RelativeIdentifier) = IsFragmented c next
-IsLater c next (Some type.Utf8String) = IsFragmented c next
-IsLater c next (Some type.Real) = IsFragmented c next
+IsLater c next (Some (type.BitString size is_extensible has_names)) = IsFragmented c AreBitsInFragments next
+IsLater c next (Some type.ObjectIdentifier) = IsFragmented c IsInFragments next
+IsLater c next (Some type.RelativeIdentifier) = IsFragmented c IsInFragments next
+IsLater c next (Some type.Utf8String) = IsFragmented c IsInFragments next
+IsLater c next (Some type.Real) = IsFragmented c IsInFragments next
 IsLater c next o = ⊥
 
 -- the type of octets of a kind
@@ -189,7 +190,7 @@ node_of kind.Real = type.Real
 abbrev pub IsFarAlternative : Piece → Type 0
 IsFarAlternative p = (n : ℕ) × (p ≡ UnknownChosen n) × (2 ^ 128 ≤ n)
 
--- a number that is too large for the encoder, or octets in fragments that are kept by their contents
+-- a number that is too large for the encoder
 pub record IsFar (c : Context) (next : ℕ) : Type 0 where
   pub part : Part
   pub is : slice_get c.parts.now next ≡ Some part

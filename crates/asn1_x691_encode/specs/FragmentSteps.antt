@@ -15,7 +15,7 @@ use Rattle.asn1_x691_encode.specs.declared.context.Context.{Context}
 use Rattle.asn1_x691_encode.specs.Encoding.{tape, types, fragment_in, numbered_in, below_in, IsEncoded, IsFirstMisfit, Outcome}
 use Rattle.asn1_x691_encode.specs.ListSteps.{IsUnderway, underway_first, underway_on, both_step, both_fails}
 
--- so many fragments of 65,536 items, and fewer items after them
+-- `whole` fragments of 65,536 items, and fewer items after them
 abbrev pub whole_in : Context → ℕ → ℕ → ℕ → ℕ → ℕ → ℕ → TypeEncoding FaultKind
 whole_in c depth node item whole left =
     whole_fragments_then (fragment_in c depth node item) c.is_aligned node whole (below_in c depth node item left)
@@ -24,7 +24,7 @@ module _ (c : Context) (depth node item : ℕ) where
   abbrev A : ℕ → ℕ → TypeEncoding FaultKind
   A = fragment_in c depth node item
 
-  -- so many items are a fragment: the encoder has no limit
+  -- `n` items are a fragment: the encoder has no limit
   fragment_of : (n : ℕ) (was now : List ℕ) (old new : Writer) (r : Bool) → Outcome c (several (types c depth item) n) was old now new r
       → Outcome c (A n) was old now new r
   fragment_of n was now old new true a = record {

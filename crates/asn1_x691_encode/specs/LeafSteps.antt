@@ -12,7 +12,8 @@ use Rattle.asn1_x691.specs.Types.{type_of}
 use Rattle.asn1_schema.specs.Pieces.{Piece, Parts}
 use Rattle.asn1_schema.specs.TypeEncodings.{TypeEncoding}
 use Rattle.asn1_x691.specs.declared.fault.FaultKind.{FaultKind}
-use Rattle.asn1_x691.specs.Limits.{no_limits}
+use Rattle.asn1_x691.specs.Fragments.{most_fragments}
+use Rattle.asn1_x691.specs.Limits.{no_limits, bit_fragments}
 use Rattle.asn1_x691_writers.specs.declared.state.Writer.{Writer}
 use Rattle.asn1_x691_writers.specs.declared.state.Rejection.TheVariants.{Misfit}
 use Rattle.asn1_x691_writers.specs.Put.{IsPut, piece_in}
@@ -127,3 +128,8 @@ at_node c node (suc d) o P some e f =
     let Q : Option Node → Type 0 =
     λ x. P (type_of no_limits c.is_aligned (types c d) c.tables.members.now c.tables.ranges.now (defaults_in c) node x) in
     subst Q (sym e) (f d refl)
+
+-- without limits, bits that have names may be in as many fragments as others
+pub same_limit : (has_names : Bool) → most_fragments ≡ bit_fragments no_limits has_names
+same_limit true = refl
+same_limit false = refl

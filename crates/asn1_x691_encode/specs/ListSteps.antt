@@ -68,7 +68,7 @@ module _ (c : Context) where
       inl (record { kind = m.kind; reason = m.reason; first = λ n h. inl (m.first n h) })
   both_fails A B was end old new (inr u) = inr u
 
-  -- ---- so many values
+  -- ---- a number of values
 
   module _ (W E : ℕ → TypeEncoding FaultKind) (was now : List ℕ) (old mid : Writer) where
     pub item_step : (left : ℕ) (next : List ℕ) (new : Writer) → 0 < left → IsUnderway c W (several E left) was old now mid

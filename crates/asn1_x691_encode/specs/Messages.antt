@@ -12,7 +12,7 @@ use Rattle.asn1_x691_encode.specs.declared.message.Misfit.{Misfit}
 use Rattle.asn1_x691_encode.specs.Encoding.{tape, types, IsLater, IsFar, IsLong, IsOff, IsWide, AreWide}
 
 module _ (c : Context) (depth node : ℕ) where
-  -- so many first parts have a complete encoding of so many octets, which the first octets are, unless there are too few
+  -- some first parts have a complete encoding of `e.octets` octets, which the first octets are, unless there are too few
   pub record IsMessage (octets : List ℕ) (e : Encoded) : Type 0 where
     pub parts : Parts
     pub list : List Bool

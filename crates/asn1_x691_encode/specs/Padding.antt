@@ -4,7 +4,7 @@ use Rattle.asn1_bits.specs.Bits.{digits}
 use Rattle.asn1_x691.specs.OpenTypes.{padding_of}
 use Rattle.asn1_x691_writers.specs.Written.{IsGrown}
 
--- so many octets are a value of so many bits and the zeros after it, which were written
+-- `count` octets are a value of `n` bits and the zeros after it, which were written
 pub record IsPadded (was : List ℕ) (start at n : ℕ) (now : List ℕ) (count : ℕ) : Type 0 where
   pub few : count < 16384
   pub size : n + padding_of n ≡ 8 * count

@@ -48,7 +48,7 @@ module _ (c : Context) where
 
     module _ (W : ℕ → AfterHeader FaultKind (List Bool)) (width : ℕ) (first : List ℕ) (start : ℕ) (mid : Writer) (m : Member) (at : ℕ)
         (is : slice_get c.tables.members.now at ≡ Some m) (now : List ℕ) (old : Writer) (head : ℕ) where
-      -- the first of so many components
+      -- the first of `n` components
       pub component_first : (n : ℕ) → 0 < n → AreUnderway c W (run n at) width (bits_of n at) first start mid now old head
           → AreUnderway c W (by m.presence (types c depth m.node) (run (n - 1) (at + 1))) width
           (presence_bits m.presence + bits_of (n - 1) (at + 1)) first start mid now old head

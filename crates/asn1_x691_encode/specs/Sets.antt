@@ -10,7 +10,7 @@ use Rattle.asn1_x691_encode.specs.declared.context.Context.{Context}
 use Rattle.asn1_x691_encode.specs.declared.set.Place.{Place}
 use Rattle.asn1_x691_encode.specs.Encoding.{types, IsEncoded, IsLeft}
 
--- an item that begins at a place was encoded by these bits, up to where the state is
+-- an item that begins at an offset was encoded by these bits, up to where the state is
 pub record IsPrevious (c : Context) (depth item : ℕ) (place : Place) (before : List Bool) (now : List ℕ) (new : Writer) : Type 0 where
   pub was : List ℕ
   pub begun : Writer

@@ -29,7 +29,7 @@ pub(crate) enum Alternative {
 }
 
 /// Returns the addition that follows a part, where `last` is the index of the last alternative of
-/// the root and so many additions are known.
+/// the root and the first `known` additions are known.
 fn alternative_of(source: &[u8], last: usize, known: usize, part: Part) -> Alternative
     requires { 8 * length source.now < 2 ^ 64 }
     ensures { (ranges : List Range) → IsAlternative last known (piece_in ranges source.now part) result }

@@ -15,7 +15,7 @@ use crate::sequence::is_absent;
 use asn1_schema::{MisfitKind, Part, Rows};
 use asn1_x691_writers::{Writer, after, put_small_length, put_zeros, reject, set_bit};
 
-/// Encodes the additions of a SEQUENCE: their number, the bits that tell which of them are present,
+/// Encodes the additions of a SEQUENCE: their number, their presence bits,
 /// and these (X.691 19.7 to 19.9).
 #[cycle(encoding)]
 pub(crate) fn encode_extension(
@@ -78,7 +78,7 @@ fn encode_counted(
     encode_present(context, depth, node, known, count, octets, state)
 }
 
-/// Encodes so many additions after the bits that tell which of them are present, of which there is
+/// Encodes `count` additions after the bits that tell which of them are present, of which there is
 /// one at least.
 #[cycle(encoding)]
 fn encode_present(

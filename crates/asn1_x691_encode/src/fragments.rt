@@ -7,7 +7,7 @@ use crate::context::Context;
 use crate::list::encode_items;
 use asn1_x691_writers::{Writer, put_fragment_number, put_number_of_units};
 
-/// Encodes so many items after their number.
+/// Encodes `count` items after their number.
 #[cycle(encoding)]
 pub(crate) fn encode_numbered_items(
     context: &Context<'_>,

@@ -1,7 +1,8 @@
 //! Encodes values of one part.
 
 ghost use Rattle.asn1_x691.specs.Fragments.{most_fragments, octets as octets_in};
-ghost use Rattle.std.specs.Prelude.{◌≡◌, ℕ, Bool, List, ◌+◌, ◌-◌, ◌*◌, ◌^◌, ◌<◌, length};
+ghost use Rattle.std.specs.Prelude.{◌≡◌, ℕ, Bool, List, ◌+◌, ◌-◌, ◌*◌, ◌^◌, ◌<◌, Some, length, slice_get};
+ghost use Rattle.asn1_schema.specs.declared.tables.Node.TheVariants as type;
 ghost use Rattle.asn1_schema.specs.declared.tables.Range.{Range};
 ghost use Rattle.asn1_schema.specs.Encodings.{anywhere};
 ghost use Rattle.asn1_schema.specs.Pieces.{Null, Truth, Unknown};
@@ -14,7 +15,7 @@ ghost use Rattle.asn1_x691_encode.specs.Encoding.{Outcome};
 use crate::context::{Context, part_at, pass};
 use asn1_schema::{Bounds, Length, LowerBound, MisfitKind, Part};
 use asn1_x691_writers::{
-    Writer, put_bit_string, put_boolean, put_enumerated, put_integer, put_integer_at_least,
+    Writer, leave, put_bit_string, put_boolean, put_enumerated, put_integer, put_integer_at_least,
     put_integer_between, put_octet_string, put_unknown, reject,
 };
 
@@ -181,10 +182,12 @@ pub(crate) fn encode_bits(
     requires size { 8 * length octets.old < 2 ^ 64 }
     requires source { 8 * length context.now.source.now < 2 ^ 64 }
     requires parts { length context.now.parts.now < 2 ^ 64 - 1 }
+    requires kind { slice_get context.now.tables.nodes.now node ≡ Some (type.BitString size.now is_extensible has_names) }
     ensures { Outcome context.now (bit_string most_fragments context.now.is_aligned node size.now is_extensible has_names) octets.old state.old octets.new state.new result }
 {
     match part_at(context.parts, state.next) {
         None => reject(state, node, MisfitKind::NoPart),
+        Some(Part::BitsInFragments(_)) => leave(state, node),
         Some(part) => pass(
             put_bit_string(
                 octets,

@@ -328,7 +328,7 @@ fn encode_between(
     encode_items_by(context, depth, node, is_set, item, count, octets, state)
 }
 
-/// Encodes so many items, those of a SET OF in ascending order.
+/// Encodes `count` items, those of a SET OF in ascending order.
 #[cycle(encoding)]
 fn encode_items_by(
     context: &Context<'_>,
@@ -351,7 +351,7 @@ fn encode_items_by(
     encode_items(context, depth, item, count, octets, state)
 }
 
-/// Encodes so many items.
+/// Encodes `count` items.
 #[cycle(encoding)]
 pub(crate) fn encode_items(
     context: &Context<'_>,

@@ -1,4 +1,4 @@
-//! Bits that tell which components are present (X.691 19.2, 19.3).
+//! Presence bits of components (X.691 19.2, 19.3).
 
 ghost use Rattle.std.specs.Prelude.{◌≡◌, ◌+◌, ◌-◌, ◌*◌, ◌^◌, ◌≤◌, ◌<◌, length, slice_get, Some};
 ghost use Rattle.asn1_bits.specs.Bits.{digits};
@@ -8,7 +8,7 @@ ghost use Rattle.asn1_x691_writers.specs.Written.{IsGrown};
 use asn1_schema::{Member, Presence, Rows};
 use asn1_x691_writers::put_zeros;
 
-/// Returns how many of so many members from an index on there are.
+/// Returns how many of the members of these rows there are.
 fn known_of(members: &[Member], rows: Rows) -> usize
     ensures few { result ≤ rows.count }
     ensures inside { result ≤ length members.now - rows.from }

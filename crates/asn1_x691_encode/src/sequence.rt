@@ -101,8 +101,8 @@ fn encode_extended(
     encode_extension(context, depth, node, known, octets, state)
 }
 
-/// Returns whether so many components of a root follow a part, and whether additions follow them as
-/// asked.
+/// Returns whether `count` components of a root follow a part, and additions as `is_extended`
+/// says.
 fn is_sequence(part: Part, count: usize, is_extended: bool) -> bool
     ensures is { result ≡ true → part ≡ SequencePart count is_extended }
     ensures other { (ranges : List Range) (source : List ℕ) → result ≡ false → piece_in ranges source part ≡ Sequence count is_extended → ⊥ }

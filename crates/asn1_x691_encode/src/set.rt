@@ -25,7 +25,7 @@ pub(crate) struct Place {
     pub(crate) next: usize,
 }
 
-/// Encodes so many items, each of which is not before the one that it follows.
+/// Encodes `count` items, each of which is not before the one that it follows.
 #[cycle(encoding)]
 pub(crate) fn encode_set_items(
     context: &Context<'_>,
@@ -211,8 +211,8 @@ fn is_ordered(
     true
 }
 
-/// Returns whether an item at a position, or the one of so many bits that it follows, does not begin
-/// at an octet in the ALIGNED variant, where its bits in place do not tell the order.
+/// Returns whether an item at a position, or the one of `count` bits that it follows, does not begin
+/// at an octet in the ALIGNED variant, where its bits in place do not show the order.
 fn is_off_octet(is_aligned: bool, count: usize, position: usize) -> bool
     ensures { (list : List Bool) → length list ≡ count → Decides result (IsOffOctet true is_aligned list position) }
 {

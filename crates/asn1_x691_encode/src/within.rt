@@ -1,5 +1,5 @@
 //! Whether octets have the bits that were written, and what a comparison of bits in octets of their
-//! own tells.
+//! own shows.
 
 ghost use Rattle.std.specs.Prelude.{◌≡◌, ◌*◌, ◌^◌, ◌<◌, false, length};
 ghost use Rattle.std.specs.Bool.{Decides};

@@ -184,7 +184,7 @@ align_enough true count w h =
     let up : 2 ^ w ≤ 2 ^ (2 ^ ceil_log2 w) = pow_mono (ceil_log2_is_least w).enough in
     omega (arith, up, h)
 
--- so many characters have codes of their own in their width
+-- `count` characters have codes of their own in their width
 count_enough : (aligned : Bool) (count : ℕ) → count ≤ 2 ^ width_for aligned count
 count_enough aligned count = elim (cases_lt 1 count) [
   | inl lt ↦ rw (width_of_many aligned count lt) (align_enough aligned count (ceil_log2 count) (ceil_log2_is_least count).enough)

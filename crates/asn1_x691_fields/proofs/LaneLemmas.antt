@@ -199,7 +199,7 @@ module _ (w o : ℕ) (some : 1 ≤ w) (is : o ≡ ones w (63 / w)) where
       lanes_are_numbers (λ n. n ≤ most) w word count below
       (λ i lt. let fits = each_fits w k c word i some small test (omega (arith, lt, many)) in omega (arith, fits))
 
--- numbers of so many bits are at most all ones
+-- numbers of `w` bits are at most all ones
 pub all_below : (w most count : ℕ) (list : List Bool) → 2 ^ w - 1 ≤ most → AllByRecursion (λ n. n ≤ most) (numbers_in w count list)
 all_below w most zero list h = tt
 all_below w most (suc count) list h =

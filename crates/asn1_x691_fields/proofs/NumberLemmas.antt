@@ -17,7 +17,7 @@ digits_of bits range some few =
     let e : bits - count_leading_zeros bits range ≡ suc top.0 = omega arith in
     rw e (record { enough = omega arith; least = λ v h. omega (arith, too_few (range + 1) top.0 v (omega arith) h) })
 
--- the digits of a number of so many bits
+-- the digits of a number of `bits` bits
 pub width_among : (bits range : ℕ) → range < 2 ^ bits → bits - count_leading_zeros bits range ≡ width_to range
 unfolding width_to
 width_among bits zero few =

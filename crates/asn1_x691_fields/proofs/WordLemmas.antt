@@ -1,4 +1,4 @@
--- Numbers of so many bits each, one after another: those of a list of bits, and those of a word.
+-- Numbers of one width, one after another: those of a list of bits, and those of a word.
 use Rattle.std.proofs.Common.{◌≡◌, ℕ, zero, suc, ◌+◌, ◌-◌, ◌*◌, ◌/◌, ◌^◌, ◌<◌, ◌≤◌, List, ◌∷◌, ◌++◌, Bool, length, take, drop, refl, sym, ◌∙◌, ap, subst, arith}
 use Rattle.std.specs.List.{AllByRecursion}
 use Rattle.std.proofs.lemmas.List.{take-append-le, drop-append-le, drop-drop, take_all, drop-take, length-take-le, length-drop}

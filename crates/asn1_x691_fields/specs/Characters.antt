@@ -32,7 +32,7 @@ abbrev pub character_by : Bool → List Range → ℕ → ℕ
 character_by true ranges i = i
 character_by false ranges i = character_at ranges i
 
--- so many characters from a bit on
+-- `count` characters from a bit on
 abbrev pub characters_at : Alphabet → List Bool → ℕ → ℕ → List ℕ
 characters_at a list at count = map (character_by a.are_numbers a.ranges.now) (numbers_in a.width count (drop at list))
 

@@ -61,7 +61,7 @@ pub numbers_length : (count : ℕ) (list : List Bool) → length (numbers_in 8 c
 numbers_length zero list = refl
 numbers_length (suc count) list = omega (arith, numbers_length count (drop 8 list))
 
--- the first of so many octets, and the others
+-- the first of `left` octets, and the others
 pub first_octet : (left more at : ℕ) (list : List Bool) → more + 1 ≡ left
     → numbers_in 8 left (drop at list) ≡ number (take 8 (drop at list)) ∷ numbers_in 8 more (drop (at + 8) list)
 first_octet zero more at list e = absurd (omega (arith, e))

@@ -18,6 +18,6 @@ abbrev pub default_at : List ℕ → Option Span → Option (List Bool)
 default_at octets None = None
 default_at octets (Some s) = bits_if (nat_le (s.at + s.count) (8 * length octets)) octets s
 
--- the bits that encode a default value after so many bits of an octet; none where the table has none
+-- the bits that encode a default value after `phase` bits of an octet; none where the table has none
 abbrev pub default_in : Defaults → Bool → ℕ → ℕ → Option (List Bool)
 default_in d aligned value phase = default_at d.octets.now (slice_get d.spans.now (row_of aligned value phase))

@@ -1,6 +1,7 @@
 -- What follows from steps over units in fragments (X.691 11.9.3.8).
-use Rattle.std.proofs.Common.{◌≡◌, ℕ, zero, suc, ◌+◌, ◌-◌, ◌*◌, ◌^◌, ◌<◌, ◌≤◌, List, [], ◌++◌, Bool, take, drop, refl, sym, ◌∙◌, ap, subst, arith, append_assoc, inl, inr}
+use Rattle.std.proofs.Common.{◌≡◌, ℕ, zero, suc, ◌+◌, ◌-◌, ◌*◌, ◌%◌, ◌^◌, ◌<◌, ◌≤◌, List, [], ◌++◌, Bool, take, drop, refl, sym, ◌∙◌, ap, subst, arith, append_assoc, inl, inr}
 use Rattle.std.specs.Prelude.{◌⊎◌}
+use Rattle.std.proofs.Math.Nat.{mul-le-mul_right, mul-mod_right}
 use Rattle.std.proofs.lemmas.Bool.{cases_lt}
 use Rattle.std.proofs.lemmas.List.{append-nil}
 use Rattle.asn1_schema.specs.declared.part.Fragments.{Fragments}
@@ -8,11 +9,23 @@ use Rattle.asn1_schema.specs.Encodings.{Fault, Encoding, Starts, IsAt, number, c
 use Rattle.asn1_schema.specs.PiecesOfParts.{bits_at, bits_of, whole_fragments, joined}
 use Rattle.asn1_x691.specs.declared.fault.FaultKind.{FaultKind}
 use Rattle.asn1_x691.specs.declared.fault.FaultKind.TheVariants.{Short, Fragment, NotMinimal}
-use Rattle.asn1_x691.specs.Fragments.{units_after, units_octets, units_next, units, units_then, last_units, all_units, bits_of_units, string, most_fragments}
+use Rattle.asn1_x691.specs.Fragments.{units_after, units_octets, units_next, units, units_then, last_units, all_units, bits_of_units, string, octets, most_fragments}
 use Rattle.asn1_x691_fields.specs.declared.state.State.{State}
+use Rattle.asn1_x691_fields.specs.Fragments.{after_fragments}
 use Rattle.asn1_x691_fields.specs.Outcomes.{rest, position, IsWithin, IsOnward}
 use Rattle.asn1_x691_fields.specs.Steps.{then_starts, then_fault, constant_starts, turn_starts, turn_fault, moved_on, within_after}
 use Rattle.asn1_x691_fields.specs.StringSteps.{starts_by}
+
+-- a unit has at least one bit
+pub as_many : (unit n : ℕ) → 1 ≤ unit → n ≤ unit * n
+as_many unit n some =
+    let p : 1 * n ≤ unit * n = mul-le-mul_right n some in
+    omega (arith, p)
+
+pub zero_units : (unit : ℕ) → 0 % unit ≡ 0
+zero_units unit =
+    let e : unit * 0 ≡ 0 = omega arith in
+    sym (ap (λ (n : ℕ). n % unit) e) ∙ mul-mod_right unit 0
 
 -- ---- the number of the units of a fragment
 
@@ -31,11 +44,6 @@ module _ (node first : ℕ) (list mid : List Bool) (s : Starts (number 8 Short n
       (inr (small, inr (large, inr (wrong, w))))
 
 -- ---- fragments of 65,536 units
-
--- where the next fragment begins, after so many
-pub after_fragments : ℕ → ℕ → ℕ → ℕ
-after_fragments unit at zero = at
-after_fragments unit at (suc times) = after_fragments unit (at + unit * 65536 + 8) times
 
 pub no_fragments_after : (unit at : ℕ) → after_fragments unit at 0 ≡ at
 unfolding after_fragments
@@ -81,7 +89,7 @@ module _ (unit : ℕ) (aligned : Bool) (node : ℕ) where
   abbrev join : List Bool → List Bool → List Bool
   join a b = a ++ b
 
-  -- what follows a number of units, where so many fragments may follow
+  -- what follows a number of units, where `more` fragments may follow
   abbrev pub after_number : ℕ → ℕ → ℕ → Encoding FaultKind (ℕ × List Bool)
   after_number more n = in_case (n < 16384) (units U join aligned node n) (16384 ≤ n)
       (in_case (n < 65536) (units_then U join aligned node n (last_units U join aligned node)) (65536 ≤ n)
@@ -192,7 +200,7 @@ module _ (unit : ℕ) (aligned : Bool) (node : ℕ) where
 
 -- ---- the loop over fragments of 65,536 units
 
--- what a number of units says from here on, after so many fragments, all say from the first number on
+-- what a number of units says from here on, after `whole` fragments, all say from the first number on
 pub record AreUnderway (unit : ℕ) (aligned : Bool) (node : ℕ) (list : List Bool) (old now : State) (at whole n : ℕ) : Type 0 where
   pub done : (v : ℕ × List Bool) (left : List Bool)
       → Starts (after_number unit aligned node (most_fragments - 1 - whole) n (position now)).encodes (rest list now) v left
@@ -266,14 +274,22 @@ module _ (unit : ℕ) (aligned : Bool) (node : ℕ) (list : List Bool) (old : St
         u.fault e (subst (λ (z : ℕ). (after_number unit aligned node z n (position now)).fault (rest list now) e) (sym fuel_is)
         (whole_fault unit aligned node list now mid w g n (most_fragments - 1 - (whole + 1)) y e (omega (arith, is)) s (inl f)))
 
-pub fuel_left : (whole at : ℕ) → 524288 * whole ≤ at → at < 2 ^ 64 → whole + 1 < most_fragments
+pub fuel_left : (whole at : ℕ) → 65536 * (whole + 1) ≤ at → at < 2 ^ 64 → whole + 1 < most_fragments
 unfolding most_fragments
 fuel_left whole at far few = omega (arith, far, few)
 
--- octets that are in no fragments
+-- units that are in no fragments
 pub one_piece : (unit : ℕ) (list : List Bool) (f : Fragments) → f.whole ≡ 0 → f.middle.count ≡ 0 → bits_of list f.last ≡ joined unit list f
 one_piece unit list f none empty =
     let a : whole_fragments unit list f.at f.whole ≡ [] =
     ap (λ (n : ℕ). whole_fragments unit list f.at n) none ∙ no_fragments unit list f.at in
     let b : bits_of list f.middle ≡ [] = ap (λ (n : ℕ). take n (drop f.middle.at list)) empty in
     sym (ap (λ (l : List Bool). l ++ (bits_of list f.middle ++ bits_of list f.last)) a ∙ ap (λ (l : List Bool). l ++ bits_of list f.last) b)
+
+-- units of eight bits are octets
+module _ (list : List Bool) (old mid : State) (h : IsWithin list old) (g : IsOnward list old mid) (aligned : Bool) (node : ℕ)
+    (v : ℕ × List Bool) (s : Starts (string most_fragments aligned 8 node (position old)).encodes (rest list old) v (rest list mid)) where
+  pub octets_start : Starts (octets most_fragments aligned node (position old)).encodes (rest list old) v.1 (rest list mid)
+  octets_start =
+      turn_starts list old mid h g (string most_fragments aligned 8 node) (λ x u. x.1) (λ x. anywhere (constant (tt {0}))) v s (rest list mid) tt
+      (constant_starts tt (rest list mid))

@@ -5,12 +5,15 @@ pub mod Characters
 pub mod NumberSources
 pub mod Octets
 pub mod Defaults
+pub mod Fragments
 pub mod Lanes
 pub mod Windows
 -- What follows from steps of a decoder; no contract cites these.
 pub mod ContentSteps
 pub mod FirstBits
+pub mod FragmentOctetSteps
 pub mod FragmentSteps
+pub mod JoinedSteps
 pub mod LeafSteps
 pub mod NumberSteps
 pub mod SignedSteps

@@ -1,4 +1,4 @@
--- The numbers of a source: so many of so many bits each, from a bit on.
+-- The numbers of a source: some, of one width, from a bit on.
 use Rattle.std.specs.Prelude.{ℕ, List, drop}
 use Rattle.asn1_bits.specs.Bits.{bits}
 use Rattle.asn1_schema.specs.CharactersOfParts.{numbers_in}

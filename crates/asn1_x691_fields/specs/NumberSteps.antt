@@ -162,7 +162,7 @@ module _ (count node : ℕ) (list bits mid : List Bool) (s : Starts (raw_bits (8
       then_fault (number (8 * count) Short node) (λ d z. z) (λ d. signed_of count node d) list mid (number_of bits) e
       (number_of_bits (8 * count) node list bits mid s) (inr (p.0, inr ((some, p.1), w)))
 
--- ---- how far a number of so many octets is from 0 or from -1
+-- ---- how far a number of some octets is from 0 or from -1
 
 far_by_sign : (count w : ℕ) (bits : List Bool) → suc w ≡ 8 * count → 1 < count → IsFewest count (number_of bits)
     → IsPositive bits w ⊎ IsNegative bits w → 2 ^ (8 * count - 9) ≤ distance (signed_number bits)

@@ -18,7 +18,7 @@ use Rattle.asn1_x691_fields.specs.Outcomes.{rest}
 use Rattle.asn1_x691_fields.specs.Characters.{rows_of, character_by, characters_at, codes_by, AreCodes}
 use Rattle.asn1_x691_fields.specs.Steps.{then_starts, then_fault, constant_starts}
 
--- the first of so many numbers, and the others
+-- the first of `left` numbers, and the others
 pub first_number : (width left more at : ℕ) (list : List Bool) → more + 1 ≡ left
     → numbers_in width left (drop at list) ≡ number (take width (drop at list)) ∷ numbers_in width more (drop (at + width) list)
 first_number width zero more at list e = absurd (omega (arith, e))
@@ -84,7 +84,7 @@ module _ (A : Encoding FaultKind ℕ) (list : List Bool) where
       (constant_starts [] (rest list now)))
   going_ends count (suc left) whole more old now z none g = absurd (omega (arith, z))
 
--- the first of so many characters, and the others
+-- the first of some characters, and the others
 first_character : (a : Alphabet) (list : List Bool) (at left : ℕ)
     → characters_at a list at (suc left)
     ≡ character_by a.are_numbers a.ranges.now (number (take a.width (drop at list))) ∷ characters_at a list (at + a.width) left

@@ -89,7 +89,7 @@ module _ (aligned : Bool) (node : ℕ) (size : Length) (A : ℕ → Encoding Fau
   named_fault true e t is w =
       permitted_fault (AreTrimmed size) (λ l. ¬ (AreTrimmed size l)) NotTrimmed node A list old mid h o bits s e is w
 
--- a fault before the names are looked at
+-- a fault before the names are examined
 pub unnamed_fault : (aligned : Bool) (node : ℕ) (size : Length) (A : ℕ → Encoding FaultKind (List Bool)) (names : Bool) (at : ℕ)
     (list : List Bool) (e : Fault FaultKind) → (A at).fault list e → (bits_by aligned node names size A at).fault list e
 unnamed_fault aligned node size A false at list e w = w

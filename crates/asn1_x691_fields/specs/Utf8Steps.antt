@@ -5,16 +5,17 @@ use Rattle.std.specs.Char.{encode_utf8, len_utf8}
 use Rattle.std.specs.Str.{IsUtf8, encode_utf8_all, all_scalars}
 use Rattle.std.proofs.Math.Seq.{take-append_seam}
 use Rattle.std.proofs.lemmas.Bool.{ltb-true}
-use Rattle.std.proofs.lemmas.List.{length-append, append-nil, drop-drop, take-append-drop}
+use Rattle.std.proofs.lemmas.List.{length-append, append-nil, drop-drop, take-append-drop, take_all}
 use Rattle.std.proofs.lemmas.List.Elements.{All-nil, All-cons, All-append}
 use Rattle.std.proofs.lemmas.Str.{length-encode, len_utf8_bounds, IsUtf8-append, IsUtf8-drop, IsCharBoundary-from_take}
-use Rattle.asn1_bits.specs.Bits.{number}
+use Rattle.asn1_bits.specs.Bits.{bits, number}
+use Rattle.asn1_bits.specs.Laws.NumberLaws.{same_octets}
 use Rattle.asn1_schema.specs.declared.part.Span.{Span}
 use Rattle.asn1_schema.specs.CharactersOfParts.{numbers_in}
 use Rattle.asn1_schema.specs.PiecesOfParts.{bits_of}
 use Rattle.asn1_x691.specs.Contents.{IsUtf8Text}
 use Rattle.asn1_x691_fields.specs.Octets.{octets_in}
-use Rattle.asn1_x691_fields.specs.ContentSteps.{bits_of_span, same_span, numbers_length}
+use Rattle.asn1_x691_fields.specs.ContentSteps.{bits_of_span, bits_of_octets, octets_below, same_span, numbers_length}
 use lib.Utf8.{scalar, encode, next, scalar_cases}
 
 -- ---- the octets of a character
@@ -157,3 +158,30 @@ module _ (list : List Bool) (s : Span) (inside : s.at + s.count ≤ length list)
 
   pub is_no_text : (IsUtf8 (octets_in list s) → ⊥) → IsUtf8Text (bits_of list s) → ⊥
   is_no_text none t = none (subst IsUtf8 (sym (same_span list s inside whole t.0 (utf8_below t.0 t.1) t.2)) t.1)
+
+-- ---- all octets of a list of bits
+
+module _ (list : List Bool) (count : ℕ) (all : 8 * count ≡ length list) where
+  whole_list : bits (numbers_in 8 count list) ≡ list
+  whole_list = bits_of_octets count list (omega (arith, all)) ∙ take_all (8 * count) list (omega (arith, all))
+
+  pub all_text : IsUtf8 (numbers_in 8 count list) → IsUtf8Text list
+  all_text u = (numbers_in 8 count list, u, sym whole_list)
+
+  pub no_text_of_all : (IsUtf8 (numbers_in 8 count list) → ⊥) → IsUtf8Text list → ⊥
+  no_text_of_all none t =
+      none (subst IsUtf8 (sym (same_octets (numbers_in 8 count list) t.0 (octets_below count list) (utf8_below t.0 t.1) (whole_list ∙ t.2))) t.1)
+
+-- what follows the octets before an index, and the first of these
+module _ (list : List Bool) (count at k : ℕ) (few : at + k ≤ count) (front : IsUtf8 (numbers_in 8 k (drop (8 * at) list))) where
+  same_rest : numbers_in 8 (count - at - k) (drop (8 * at + 8 * k) list) ≡ numbers_in 8 (count - (at + k)) (drop (8 * (at + k)) list)
+  same_rest =
+      let e : count - at - k ≡ count - (at + k) = omega arith in
+      let f : 8 * at + 8 * k ≡ 8 * (at + k) = omega arith in
+      ap (λ (n : ℕ). numbers_in 8 n (drop (8 * at + 8 * k) list)) e ∙ ap (λ (n : ℕ). numbers_in 8 (count - (at + k)) (drop n list)) f
+
+  pub rest_is_text : IsUtf8 (numbers_in 8 (count - at) (drop (8 * at) list)) → IsUtf8 (numbers_in 8 (count - (at + k)) (drop (8 * (at + k)) list))
+  rest_is_text u = subst IsUtf8 same_rest (text_goes_on k (count - at) (8 * at) list (omega (arith, few)) front u)
+
+  pub rest_joins : IsUtf8 (numbers_in 8 (count - (at + k)) (drop (8 * (at + k)) list)) → IsUtf8 (numbers_in 8 (count - at) (drop (8 * at) list))
+  rest_joins u = text_joins k (count - at) (8 * at) list (omega (arith, few)) front (subst IsUtf8 (sym same_rest) u)

@@ -7,7 +7,7 @@ use Rattle.std.proofs.lemmas.Nat.{pow_pos}
 use Rattle.asn1_x691.specs.Characters.{IsInlineText, IsOnOctetText}
 use Rattle.asn1_x691_fields.specs.Windows.{field_of_word}
 
--- the number of so many bits of a word
+-- the number of `width` bits of a word
 pub field_below : (word skipped width : ℕ) → width ≤ 64 → field_of_word word skipped width < 2 ^ width
 field_below word skipped width h =
     let e : width + (64 - width) ≡ 64 = omega (arith, h) in

@@ -3,7 +3,7 @@ use Rattle.std.specs.Prelude.{◌≡◌, ℕ, ◌+◌, ◌-◌, ◌*◌, ◌/◌
 use Rattle.asn1_bits.specs.Bits.{number}
 use Rattle.asn1_x691_fields.specs.declared.windows.Window.{Window}
 
--- the number of so many bits of a word after so many others
+-- the number of `width` bits of a word after `skipped` others
 abbrev pub field_of_word : ℕ → ℕ → ℕ → ℕ
 field_of_word word skipped width = word * 2 ^ skipped % 2 ^ 64 / 2 ^ (64 - width)
 

@@ -131,7 +131,7 @@ fn count_of(ranges: &[Range]) -> u128
     count
 }
 
-/// Returns in how many bits one of so many characters is (X.691 30.5.2, 30.5.3).
+/// Returns in how many bits one of `count` characters is (X.691 30.5.2, 30.5.3).
 #[inline(always)]
 fn width_of(count: u128, is_aligned: bool) -> usize
     ensures value { result ≡ width_for is_aligned count }
@@ -235,7 +235,7 @@ fn end_of(ranges: &[Range]) -> u64
     end
 }
 
-/// Returns the character of an index, if the ranges ascend and there is one. It goes over the ranges
+/// Returns the character of an index, if the ranges ascend and there is one. It visits the ranges
 /// once.
 pub(crate) fn ascending_at(ranges: &[Range], index: u64) -> Option<u64>
     ensures within { IfSome result (λ c. IsIn ranges.now c) }
@@ -256,7 +256,7 @@ pub(crate) fn ascending_at(ranges: &[Range], index: u64) -> Option<u64>
     None
 }
 
-/// Returns the first number up to which there are more than so many characters, or the end of the
+/// Returns the first number up to which there are more than `index` characters, or the end of the
 /// alphabet.
 pub(crate) fn first_past(ranges: &[Range], index: u128) -> u64
     ensures below { characters_below ranges.now result ≤ index }

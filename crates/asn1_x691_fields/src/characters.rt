@@ -74,7 +74,7 @@ fn next_character(
     Some(())
 }
 
-/// Reads so many characters, if it is quick to tell that their codes are all of characters. Returns the
+/// Reads `count` characters, if it is quick to tell that their codes are all of characters. Returns the
 /// index of the first bit. Otherwise it reads nothing.
 #[inline(always)]
 fn next_codes(
@@ -105,7 +105,7 @@ fn next_codes(
     }
 }
 
-/// Reads so many characters, and returns the index of the first bit.
+/// Reads `count` characters, and returns the index of the first bit.
 #[inline(always)]
 pub(crate) fn next_characters(
     octets: &[u8],
@@ -135,7 +135,7 @@ pub(crate) fn next_characters(
     )
 }
 
-/// Reads so many characters of any alphabet, and returns the index of the first bit.
+/// Reads `count` characters of any alphabet, and returns the index of the first bit.
 #[inline(never)]
 fn next_of_any(
     octets: &[u8],
@@ -157,7 +157,7 @@ fn next_of_any(
     next_each(octets, &alphabet, count, node, state)
 }
 
-/// Reads so many characters one after another, and returns the index of the first bit.
+/// Reads `count` characters one after another, and returns the index of the first bit.
 fn next_each(
     octets: &[u8],
     alphabet: &Alphabet<'_>,

@@ -86,7 +86,7 @@ fn interval_in(ranges: &[Range]) -> Option<Interval>
     })
 }
 
-/// Returns whether so many codes, from bit `at` on, are all of characters. It looks at one after
+/// Returns whether `count` codes, from bit `at` on, are all of characters. It examines one after
 /// another.
 fn are_each_codes(octets: &[u8], alphabet: &Alphabet<'_>, at: usize, count: usize) -> bool
     requires size { 8 * length octets.now < 2 ^ 64 }

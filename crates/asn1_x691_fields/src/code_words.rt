@@ -21,7 +21,7 @@ pub(crate) struct Interval {
     pub(crate) range: u64,
 }
 
-/// Returns whether so many numbers of `width` bits, from bit `at` on, are all in an interval.
+/// Returns whether `count` numbers of `width` bits, from bit `at` on, are all in an interval.
 #[inline(always)]
 pub(crate) fn are_in(
     octets: &[u8],
@@ -50,7 +50,7 @@ pub(crate) fn are_in(
     true
 }
 
-/// Returns whether so many numbers of `width` bits, one after another in a word, are all in an
+/// Returns whether `count` numbers of `width` bits, one after another in a word, are all in an
 /// interval. It compares them at once, and only where that does not tell one after another.
 #[inline(always)]
 fn are_in_lanes(word: u64, width: usize, interval: Interval, count: usize) -> bool

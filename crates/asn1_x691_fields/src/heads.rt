@@ -1,4 +1,4 @@
-//! Bits and numbers of so many bits.
+//! Bits, and numbers of a given width.
 
 ghost use Rattle.std.specs.Prelude.{◌≡◌, ◌≤◌, ◌<◌, ◌^◌, ◌*◌, ◌+◌, ◌%◌, Bool, true, length, take, drop, IfSome, ⊤};
 ghost use Rattle.asn1_bits.specs.Bits.{bits};

@@ -11,7 +11,7 @@ ghost use Rattle.asn1_x691_fields.specs.Lanes.{ones};
 
 use crate::code_words::Interval;
 
-/// For each width, the word with 1 in each lane of so many bits, of as many lanes as 63 bits have.
+/// For each width, the word with 1 in each lane of this width, of as many lanes as 63 bits have.
 const ONES: [u64; 8] = [
     0,
     0x7FFF_FFFF_FFFF_FFFF,
@@ -33,7 +33,7 @@ fn ones_of(width: usize) -> u64
     ONES[width]
 }
 
-/// Returns whether so many numbers of `width` bits, one after another in a word, are all at most a
+/// Returns whether `count` numbers of `width` bits, one after another in a word, are all at most a
 /// number. A number that exceeds it carries out of its lane, if what is left up to all ones is added.
 #[inline(always)]
 pub(crate) fn are_up_to(word: u64, width: usize, most: u64, count: usize) -> bool
@@ -52,7 +52,7 @@ pub(crate) fn are_up_to(word: u64, width: usize, most: u64, count: usize) -> boo
     ((word + left) ^ word ^ left) & (ones << width) == 0
 }
 
-/// Returns whether so many numbers of `width` bits, one after another in a word, are all at least a
+/// Returns whether `count` numbers of `width` bits, one after another in a word, are all at least a
 /// number: whether what they leave up to all ones is at most what that number leaves.
 #[inline(always)]
 fn are_from(word: u64, width: usize, least: u64, count: usize) -> bool
@@ -70,7 +70,7 @@ fn are_from(word: u64, width: usize, least: u64, count: usize) -> bool
     are_up_to(all - word, width, top - least, count)
 }
 
-/// Returns whether so many numbers of `width` bits, one after another in a word, are all in an
+/// Returns whether `count` numbers of `width` bits, one after another in a word, are all in an
 /// interval.
 #[inline(always)]
 pub(crate) fn are_quickly_in(word: u64, width: usize, interval: Interval, count: usize) -> bool

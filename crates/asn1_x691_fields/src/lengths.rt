@@ -80,7 +80,7 @@ pub fn next_small_length(
     next_small_or_large(octets, is_aligned, bit, node, state)
 }
 
-/// Reads a length after the bit that tells its form: 0 up to 64, and 1 above.
+/// Reads a length after the bit for its form: 0 up to 64, and 1 above.
 #[inline(always)]
 fn next_small_or_large(
     octets: &[u8],

@@ -12,7 +12,7 @@ ghost use Rattle.asn1_x691.specs.Fragments.{most_fragments};
 ghost use Rattle.asn1_x691_fields.specs.Outcomes.{IsWithin, IsOnward, IsRead, IsPlaced};
 
 use crate::heads::next_bit;
-use crate::long_octets::{next_long_octets, next_other_octets, part_of};
+use crate::long_strings::{next_long_units, next_other_units, part_of_octets};
 use crate::sized_strings::next_sized_string;
 use crate::state::State;
 use asn1_schema::{Length, Part};
@@ -80,8 +80,8 @@ fn next_octets_of_root(
 {
     match size {
         Length::AtLeast { least } => {
-            let fragments = next_long_octets(octets, is_aligned, least, node, state)?;
-            Some(part_of(fragments))
+            let fragments = next_long_units(octets, is_aligned, 8, least, node, state)?;
+            Some(part_of_octets(fragments))
         }
         Length::Between { least, range } => {
             let span = next_sized_string(
@@ -113,6 +113,6 @@ fn next_added_octets(
     ensures read { (ranges : List Range) → IsRead (λ at. (leaf (added_string most_fragments is_aligned 8 size node) Octets node at).encoding)
         (λ p. piece_of ranges (bits octets.now) p ∷ []) (bits octets.now) state.old state.new result }
 {
-    let fragments = next_other_octets(octets, is_aligned, size, node, state)?;
-    Some(part_of(fragments))
+    let fragments = next_other_units(octets, is_aligned, 8, size, node, state)?;
+    Some(part_of_octets(fragments))
 }

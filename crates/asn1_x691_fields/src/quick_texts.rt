@@ -134,7 +134,7 @@ fn next_few_between(
     Some((count, at + first))
 }
 
-/// Returns whether so many codes of a window are all of characters, if that is quick to tell.
+/// Returns whether `count` codes of a window are all of characters, if that is quick to tell.
 #[inline(always)]
 pub fn have_codes(window: Window, skipped: usize, alphabet: &Alphabet<'_>, count: usize) -> bool
     requires is { IsAlphabet alphabet.now }

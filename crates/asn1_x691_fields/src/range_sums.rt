@@ -1,4 +1,4 @@
-//! What all ranges of an alphabet tell together.
+//! What is known of all ranges of an alphabet.
 
 ghost use Rattle.std.specs.Prelude.{IfSome, ◌≡◌, ◌≤◌, ◌<◌, ◌^◌, ℕ, true, false, length};
 ghost use Rattle.asn1_schema.specs.CharactersOfParts.{end_of};
@@ -7,7 +7,7 @@ ghost use Rattle.asn1_x691_fields.specs.Characters.{AreAscending};
 
 use asn1_schema::Range;
 
-/// What all ranges of an alphabet tell together.
+/// What is known of all ranges of an alphabet.
 #[derive(Clone, Copy, Debug)]
 pub(crate) struct RangeSums {
     /// How many characters there are.
@@ -18,7 +18,7 @@ pub(crate) struct RangeSums {
     pub(crate) are_ascending: bool,
 }
 
-/// Returns what ranges tell together. Each has at most 2^32 characters, so there are fewer than 2^64.
+/// Returns what is known of ranges. Each has at most 2^32 characters, so there are fewer than 2^64.
 #[inline(always)]
 pub(crate) fn sums_of(ranges: &[Range]) -> RangeSums
     requires { length ranges.now < 2 ^ 32 }
@@ -33,7 +33,7 @@ pub(crate) fn sums_of(ranges: &[Range]) -> RangeSums
     }
 }
 
-/// Returns what ranges tell together, if they ascend and none of them is empty.
+/// Returns what is known of ranges, if they ascend and none of them is empty.
 #[inline(always)]
 pub(crate) fn ascending_sums(ranges: &[Range]) -> Option<RangeSums>
     requires { length ranges.now < 2 ^ 32 }
@@ -59,7 +59,7 @@ pub(crate) fn ascending_sums(ranges: &[Range]) -> Option<RangeSums>
     })
 }
 
-/// Returns what ranges tell together, in any order.
+/// Returns what is known of ranges, in any order.
 #[cold]
 #[inline(never)]
 fn sums_of_any(ranges: &[Range]) -> RangeSums

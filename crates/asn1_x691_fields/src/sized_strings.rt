@@ -143,8 +143,8 @@ pub(crate) fn next_sized_string(
     )
 }
 
-/// Reads so many units, which begin at an octet in the ALIGNED variant, unless their number is fixed
-/// and small, or there are none (X.691 16.9, 16.10, 17.6, 17.7).
+/// Reads `least + more` units. They begin at an octet in the ALIGNED variant, unless their number is
+/// fixed and small, or there are none (X.691 16.9, 16.10, 17.6, 17.7).
 fn next_units_of(
     octets: &[u8],
     is_aligned: bool,
@@ -172,7 +172,7 @@ fn next_units_of(
     next_run(octets, unit, least, more, node, state)
 }
 
-/// Returns whether so many units begin where they are.
+/// Returns whether `least + more` units begin where they are.
 fn is_inline(unit: usize, least: usize, range: usize, more: usize) -> bool
     requires unit { unit ≤ 64 }
     requires more { more ≤ range }

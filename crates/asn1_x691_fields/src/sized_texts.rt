@@ -154,7 +154,7 @@ fn next_sized_text(
     Some((count, at))
 }
 
-/// Reads so many characters. They begin at an octet in the ALIGNED variant, unless there are none or
+/// Reads `count` characters. They begin at an octet in the ALIGNED variant, unless there are none or
 /// they have few bits (X.691 30.5.6, 30.5.7).
 #[inline(always)]
 fn next_characters_of(

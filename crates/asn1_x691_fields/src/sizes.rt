@@ -11,7 +11,7 @@ use crate::state::{State, fail};
 use asn1_schema::Length;
 use asn1_x691::FaultKind;
 
-/// Returns whether a size constraint permits so many, without its extension marker.
+/// Returns whether a size constraint permits `count`, without its extension marker.
 pub fn is_of_root(size: Length, count: usize) -> bool
     ensures of_root { result ≡ true → IsOfRoot size count }
     ensures added { result ≡ false → IsAddedSize size count }

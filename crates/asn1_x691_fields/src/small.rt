@@ -35,7 +35,7 @@ pub fn next_small_number(
     next_small_or_large(octets, is_aligned, bit, node, state)
 }
 
-/// Reads a number after the bit that tells its form: 0 below 64, and 1 from 64 on.
+/// Reads a number after the bit for its form: 0 below 64, and 1 from 64 on.
 #[inline(always)]
 fn next_small_or_large(
     octets: &[u8],

@@ -37,7 +37,7 @@ fn next_count_octets(octets: &[u8], node: usize, state: &mut State) -> Option<us
     Some(count)
 }
 
-/// Returns how many units a fragment has that is so many times 16,384 of them.
+/// Returns how many units a fragment of `times` times 16,384 units has.
 #[cold]
 fn fragment_of(times: usize, node: usize, state: &mut State) -> Option<usize>
     ensures at { state.new.at ≡ state.old.at }

@@ -150,7 +150,7 @@ fn next_any_text(
     Some(found_of(&alphabet, count, at))
 }
 
-/// Returns so many characters of an alphabet from bit `at` on.
+/// Returns `count` characters of an alphabet from bit `at` on.
 #[inline(always)]
 fn found_of(alphabet: &Alphabet<'_>, count: usize, at: usize) -> Found
     ensures { (list : List Bool) → characters_in result alphabet.now.ranges.now list ≡ characters_at alphabet.now list at count }
@@ -199,7 +199,7 @@ fn part_of(found: Found, rows: Rows) -> Part
     })
 }
 
-/// Returns what codes tell, that are numbers, or indices among rows of a table.
+/// Returns what codes are: numbers, or indices among rows of a table.
 #[inline(always)]
 fn codes_of(are_numbers: bool, rows: Rows) -> Codes
     ensures { result ≡ codes_by are_numbers rows }

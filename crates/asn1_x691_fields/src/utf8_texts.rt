@@ -7,17 +7,20 @@ ghost use Rattle.asn1_schema.specs.declared.tables.Range.{Range};
 ghost use Rattle.asn1_schema.specs.CharactersOfParts.{numbers_in};
 ghost use Rattle.asn1_schema.specs.PiecesOfParts.{piece_of, bits_of};
 ghost use Rattle.asn1_x691.specs.Contents.{IsUtf8Text};
+ghost use Rattle.asn1_x691.specs.Fragments.{most_fragments};
 ghost use Rattle.asn1_x691.specs.Leaves.{contents};
 ghost use Rattle.asn1_x691_fields.specs.Outcomes.{IsWithin, IsOnward, IsRead, IsPlaced};
 
 use crate::bits::number_at;
+use crate::fragments::next_in_fragments;
+use crate::long_strings::part_of_octets;
 use crate::state::{State, fail};
-use crate::strings::next_octets;
+use crate::utf8_fragments::is_utf8_in_fragments;
 use asn1_schema::{Part, Span};
 use asn1_x691::FaultKind;
 
-/// How many octets are looked at together. A character has at most four.
-const WINDOW: usize = 64;
+/// The number of octets that are examined together. A character has at most four.
+pub(crate) const WINDOW: usize = 64;
 
 /// Reads a UTF8String (X.691 30.6, X.690 8.23.10). The part has its octets.
 pub fn next_utf8_string(
@@ -30,15 +33,15 @@ pub fn next_utf8_string(
     requires within { IsWithin (bits octets.now) state.old }
     requires placed { IsPlaced is_aligned state.old }
     ensures onward { IsOnward (bits octets.now) state.old state.new }
-    ensures read { (ranges : List Range) → IsRead (λ at. (contents 0 is_aligned node IsUtf8Text at).encoding)
+    ensures read { (ranges : List Range) → IsRead (λ at. (contents most_fragments is_aligned node IsUtf8Text at).encoding)
         (λ p. piece_of ranges (bits octets.now) p ∷ []) (bits octets.now) state.old state.new result }
 {
-    let span = next_octets(octets, is_aligned, node, state)?;
-    if !is_utf8(octets, span) {
+    let (count, fragments) = next_in_fragments(octets, is_aligned, 8, node, state)?;
+    if !is_utf8_in_fragments(octets, fragments, count) {
         fail(state, node, FaultKind::Contents);
         return None;
     }
-    Some(Part::Octets(span))
+    Some(part_of_octets(fragments))
 }
 
 /// Returns whether octets of a message are UTF-8. They may begin at any bit, and must be inside the
@@ -63,7 +66,7 @@ pub fn is_utf8(message: &[u8], span: Span) -> bool
     true
 }
 
-/// Returns how many of the octets from bit `at` on are UTF-8, where as many are looked at as a window
+/// Returns how many of the octets from bit `at` on are UTF-8, where as many are examined as a window
 /// holds; none where they begin with no character.
 fn front_len(message: &[u8], at: usize, left: usize) -> usize
     requires size { 8 * length message.now < 2 ^ 64 }
@@ -91,7 +94,7 @@ fn copy_octets(message: &[u8], at: usize, octets: &mut [u8])
 }
 
 /// Returns how many of the first octets are UTF-8.
-fn text_len(octets: &[u8]) -> usize
+pub(crate) fn text_len(octets: &[u8]) -> usize
     ensures few { result ≤ length octets.now }
     ensures text { IsUtf8 (take result octets.now) }
     ensures none { result ≡ 0 → (k : ℕ) → 0 < k → k ≤ length octets.now → IsUtf8 (take k octets.now) → ⊥ }

@@ -35,7 +35,7 @@ pub fn window_at(octets: &[u8], at: usize) -> Option<Window>
     })
 }
 
-/// Returns the number of `width` bits of a window after so many others.
+/// Returns the number of `width` bits of a window after `skipped` others.
 #[inline(always)]
 pub fn number_in(window: Window, skipped: usize, width: usize) -> u64
     requires skipped { window.shift + skipped < 64 }

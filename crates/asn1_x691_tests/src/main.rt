@@ -9,7 +9,7 @@
 //! it needs. The answer to a row of `uper-many` is how many parts there are.
 #![tactic(auto)]
 
-use asn1_schema::{Part, Tables};
+use asn1_schema::{Node, Part, Tables};
 use asn1_schema_rows::{Schema, Source, schema_of, text_of};
 use asn1_test_rows::{Answers, RowError, hex_of, octets, run, wrong};
 use asn1_x691_decode::{Context, Defaults, decode};
@@ -19,10 +19,10 @@ use std::alloc::Global;
 use std::io::BufReader;
 use std::process::ExitCode;
 
-/// How many parts a value of a row has at most.
+/// The most parts of a value of a row.
 const ROOM: usize = 1_000;
 
-/// How many parts a value has at most whose answer is their number.
+/// The most parts of a value whose answer is their number.
 const MANY: usize = 300_000;
 
 /// How a row is answered.
@@ -36,10 +36,10 @@ enum Form {
     Number,
 }
 
-/// How many octets a message of a row of two types has at most.
+/// The most octets of a message of a row of two types.
 const LARGE: usize = 1_000;
 
-/// How deep a value of a row is nested at most.
+/// The greatest depth of a value of a row.
 const DEPTH: usize = 100;
 
 /// Decodes octets by a schema, and returns the answer of a form.
@@ -87,8 +87,19 @@ fn decoded<'a>(
     }
 }
 
-/// Encodes the parts of a message, and returns whether that makes the message again. Without room the
-/// same number of octets is needed, unless a value of more than 504 bits must be compared.
+/// Returns whether the encoder leaves a part of the value of a node: one in fragments that is no OCTET
+/// STRING.
+fn is_left(tables: Tables<'_>, node: usize, part: &Part) -> bool {
+    match *part {
+        Part::BitsInFragments(_) => true,
+        Part::OctetsInFragments(_) => matches!(tables.nodes.get(node), Some(Node::Utf8String)),
+        _ => false,
+    }
+}
+
+/// Encodes the parts of a message, and returns whether that makes the message again, or the encoder
+/// leaves a part that it may leave. Without room the same number of octets is needed, unless a value of
+/// more than 504 bits must be compared.
 fn is_encoded_again(
     alloc: Global,
     context: &Context<'_>,
@@ -106,19 +117,21 @@ fn is_encoded_again(
         source: octets,
         is_aligned: context.is_aligned,
     };
+    let is_left = parts.iter().any(|part| is_left(context.tables, node, part));
     let is_measured = match encode(&value, DEPTH, node, &mut []) {
         Ok(encoded) => encoded.octets == octets.len(),
-        Err(misfit) => misfit.reason == Rejection::NoRoom && octets.len() > 63,
+        Err(misfit) if misfit.reason == Rejection::NoRoom => octets.len() > 63,
+        Err(misfit) => is_left && misfit.reason == Rejection::Unsupported,
     };
     let mut room = vec![in alloc; 0u8; octets.len() + 8]?;
     match encode(&value, DEPTH, node, room.as_mut_slice()) {
         Ok(encoded) => { Ok(is_measured && room.as_slice().get(..encoded.octets) == Some(octets)) }
-        Err(_) => Ok(false),
+        Err(misfit) => Ok(is_measured && is_left && misfit.reason == Rejection::Unsupported),
     }
 }
 
-/// Encodes a value into so many octets. Returns them, or how many it needs where there are none, or the
-/// misfit.
+/// Encodes a value into `room` octets. Returns these octets, or how many are needed if `room` is 0,
+/// or the misfit.
 fn message_of(
     alloc: Global,
     room: usize,
@@ -138,7 +151,7 @@ fn message_of(
     }
 }
 
-/// Encodes a value of one type as one of another, into so many octets.
+/// Encodes a value of one type as one of another, into `room` octets.
 fn encoded_as(
     alloc: Global,
     is_aligned: bool,

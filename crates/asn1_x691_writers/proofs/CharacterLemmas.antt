@@ -1,4 +1,4 @@
--- Characters that are looked at, and written, one after another.
+-- Characters that are examined, and written, one after another.
 use Rattle.std.proofs.Common.{◌≡◌, ℕ, zero, suc, ◌+◌, ◌^◌, ◌<◌, min, List, [], ◌∷◌, Bool, refl, sym, subst, arith}
 use Rattle.asn1_schema.specs.declared.part.Characters.{Characters}
 use Rattle.asn1_schema.specs.declared.tables.Range.{Range}

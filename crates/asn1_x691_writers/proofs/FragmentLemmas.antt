@@ -7,7 +7,7 @@ use Rattle.asn1_x691_writers.specs.Written.{IsWritten}
 use Rattle.asn1_x691_writers.specs.Units.{AreUnits}
 use Rattle.asn1_x691_writers.specs.StringSteps.{bits_apart, full_units}
 
--- so many units are a first part and the others
+-- `total` units are a first part and the others
 pub units_apart : (list : List Bool) (at unit m n total : ℕ) → m + n ≡ total
     → ◌≡◌ {A = ℕ × List Bool} (m + n, bits_at list at (unit * m) ++ bits_at list (at + unit * m) (unit * n)) (total, bits_at list at (unit * total))
 units_apart list at unit m n total e =
@@ -17,7 +17,7 @@ units_apart list at unit m n total e =
     ap P (sym (bits_apart list at (unit * m) (unit * n)) ∙ ap (λ (k : ℕ). bits_at list at k) f)
     ∙ ap Q e
 
--- of so many units these are left; what is written of them is written of all
+-- of `count` units these are left; what is written of them is written of all
 pub record IsFragmented (aligned : Bool) (unit : ℕ) (list : List Bool) (was : List ℕ) (old from count : ℕ) (now : List ℕ)
     (at first left : ℕ) : Type 0 where
   pub more : ℕ

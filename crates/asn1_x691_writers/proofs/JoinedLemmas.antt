@@ -8,7 +8,7 @@ use Rattle.asn1_x691_writers.specs.GrownSteps.{grown_both}
 use Rattle.asn1_x691_writers.specs.Joined.{bits_in}
 use Rattle.asn1_x691_writers.specs.StringSteps.{bits_apart}
 use Rattle.asn1_x691_writers.specs.Written.{IsGrown}
-use Rattle.asn1_x691_writers.specs.JoinedSteps.{past_end, fragments_apart, one_more}
+use Rattle.asn1_x691_fields.specs.JoinedSteps.{past_end, fragments_apart, one_more}
 
 module _ (list : List Bool) (f : Fragments) (middle last : Span) (m : bits_of list middle ≡ bits_of list f.middle)
     (l : bits_of list last ≡ bits_of list f.last) where

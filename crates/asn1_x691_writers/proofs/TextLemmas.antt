@@ -12,7 +12,7 @@ use Rattle.asn1_x691_writers.specs.StringSteps.{full_units}
 use Rattle.asn1_x691_writers.specs.TextSteps.{in_both}
 use Rattle.asn1_x691_writers.specs.Texts.{AreIn}
 
--- so many characters are a first part and the others
+-- `total` characters are a first part and the others
 pub same_pair : (m n total : ℕ) (xs ys whole : List ℕ) → m + n ≡ total → whole ≡ xs ++ ys
     → ◌≡◌ {A = ℕ × List ℕ} (m + n, xs ++ ys) (total, whole)
 same_pair m n total xs ys whole e f =
@@ -20,7 +20,7 @@ same_pair m n total xs ys whole e f =
     let Q : ℕ → ℕ × List ℕ = λ k. (k, whole) in
     ap P (sym f) ∙ ap Q e
 
--- of so many characters these are left; what is written of them is written of all
+-- of some characters these are left; what is written of them is written of all
 pub record AreFragmented (a : Alphabet) (table : List Range) (list : List Bool) (all : Characters) (was : List ℕ) (old : ℕ)
     (now : List ℕ) (at : ℕ) (left : Characters) : Type 0 where
   pub more : ℕ

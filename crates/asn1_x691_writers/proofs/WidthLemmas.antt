@@ -38,7 +38,7 @@ octets_minimal n count is =
 
 -- ---- octets of two's complement
 
--- so many octets of two's complement hold numbers of a distance from 0 or from -1, and no fewer do
+-- `count` octets of two's complement hold numbers of a distance from 0 or from -1, and no fewer do
 pub record AreSigned (count u : ℕ) : Type 0 where
   pub below : u < 2 ^ (8 * count - 1)
   pub fewest : (count ≤ 1) ⊎ (2 ^ (8 * count - 9) ≤ u)

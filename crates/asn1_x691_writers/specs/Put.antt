@@ -3,7 +3,7 @@ use Rattle.std.specs.Prelude.{◌≡◌, ℕ, ℤ, ◌^◌, ◌≤◌, ◌⊎◌
 use Rattle.asn1_bits.specs.Bits.{bits}
 use Rattle.asn1_schema.specs.declared.misfit.MisfitKind.{MisfitKind}
 use Rattle.asn1_schema.specs.declared.part.Part.{Part}
-use Rattle.asn1_schema.specs.declared.part.Part.TheVariants.{OctetsInFragments}
+use Rattle.asn1_schema.specs.declared.part.Part.TheVariants.{BitsInFragments, OctetsInFragments}
 use Rattle.asn1_schema.specs.declared.part.Fragments.{Fragments}
 use Rattle.asn1_schema.specs.declared.tables.Range.{Range}
 use Rattle.asn1_schema.specs.Pieces.{Piece, Integer, UnknownEnumerated, Parts}
@@ -18,6 +18,10 @@ use Rattle.asn1_x691_writers.specs.Written.{IsWritten}
 -- the part is a string whose octets are in fragments
 abbrev pub IsInFragments : Part → Type 0
 IsInFragments p = (f : Fragments) × (p ≡ OctetsInFragments f)
+
+-- the part is a string whose bits are in fragments
+abbrev pub AreBitsInFragments : Part → Type 0
+AreBitsInFragments p = (f : Fragments) × (p ≡ BitsInFragments f)
 
 -- the piece that a part is, whose spans are bits of these octets, by a table of ranges
 abbrev pub piece_in : List Range → List ℕ → Part → Piece

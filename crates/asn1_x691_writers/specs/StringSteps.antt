@@ -24,7 +24,7 @@ bits_apart list at m n =
 
 -- ---- units with their number
 
--- U says of so many units how they are encoded, and J joins what two fragments hold
+-- U says how n units are encoded, and J joins what two fragments hold
 module _ {Y : Type 0} (U : ℕ → ℕ → Encoding FaultKind Y) (J : Y → Y → Y) (aligned : Bool) (node : ℕ) where
   abbrev Last : ℕ → ℕ → Encoding FaultKind (ℕ × Y)
   Last n = in_case (n < 16384) (units U J aligned node n) (16384 ≤ n) (anywhere (invalid NotMinimal node))

@@ -8,7 +8,7 @@ use Rattle.asn1_bits.specs.Laws.DigitLaws.{length-bits, bits-append}
 use Rattle.asn1_x691_writers.specs.Written.{IsIndex, Holds, IsGrown}
 use Rattle.asn1_x691_writers.specs.GrownSteps.{index_is}
 
--- `skip` octets are before the last ones, or there are fewer than so many
+-- `skip` octets are before the last ones, or there are fewer than `skip`
 module _ (front was now : List ℕ) (skip at old end new : ℕ) (more : List Bool) (few : 8 * length (front ++ was) < 2 ^ 64)
     (same : length now ≡ length was) (start : old ≡ 8 * skip + at) (g : IsGrown was at now end more)
     (index : (n : ℕ) → IsIndex old n → IsIndex new (n + length more)) where

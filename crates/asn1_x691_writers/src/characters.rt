@@ -71,7 +71,7 @@ pub fn other_characters(text: Characters) -> Characters
     }
 }
 
-/// Returns so many characters of a part, and those after them.
+/// Returns `count` characters of a part, and those after them.
 pub(crate) fn split_characters(text: Characters, count: usize) -> (Characters, Characters)
     requires { count ≤ text.count }
     ensures first { result.0.count ≡ count }
@@ -134,7 +134,7 @@ impl NumberSource for PartCharacters<'_> {
     }
 }
 
-/// Returns whether all characters of a part are in an alphabet. `is_copied` tells that they have its codes.
+/// Returns whether all characters of a part are in an alphabet. `is_copied` says that they have its codes.
 pub(crate) fn are_in(
     alphabet: &Alphabet<'_>,
     source: &[u8],
@@ -173,7 +173,7 @@ fn put_character(octets: &mut [u8], at: usize, alphabet: &Alphabet<'_>, characte
     put_wide(octets, at, code_of(alphabet, character), alphabet.width)
 }
 
-/// Writes the characters of a part, which are in the alphabet, by their codes. `is_copied` tells that they
+/// Writes the characters of a part, which are in the alphabet, by their codes. `is_copied` says that they
 /// have these codes. Returns the index after them.
 #[inline(always)]
 pub(crate) fn put_characters(

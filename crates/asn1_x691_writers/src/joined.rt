@@ -123,7 +123,7 @@ fn run_after(source: &[u8], joined: &Joined, from: u128) -> Span
     rest_of(joined.last, from - part - middle)
 }
 
-/// Returns a span without so many first bits.
+/// Returns a span without its first `count` bits.
 fn rest_of(span: Span, count: u128) -> Span
     requires count { count < span.count }
     requires fits { span.at + span.count < 2 ^ 64 }

@@ -79,7 +79,7 @@ pub(crate) fn put_added_joined(
     put_joined_units(octets, at, is_aligned, source, joined, count)
 }
 
-/// Writes so many octets, which begin at an octet in the ALIGNED variant, unless their number is
+/// Writes `count` octets, which begin at an octet in the ALIGNED variant, unless their number is
 /// fixed and small, or there are none (X.691 17.6, 17.7).
 fn put_joined_inline(
     octets: &mut [u8],
@@ -108,7 +108,7 @@ fn put_joined_inline(
     put_joined(octets, start, source, joined, 0, 8 * count)
 }
 
-/// Returns whether so many octets begin where they are.
+/// Returns whether `count` octets begin where they are.
 fn are_inline(range: usize, count: usize) -> bool
     ensures is { (least : ℕ) → least ≤ count → count ≤ least + range → result ≡ true → IsInline 8 least range count }
     ensures not { (least : ℕ) → least ≤ count → count ≤ least + range → result ≡ false → IsOnOctet 8 least range count }

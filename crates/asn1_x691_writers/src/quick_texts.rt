@@ -19,7 +19,7 @@ use asn1_x691_fields::{
     Alphabet, have_codes, narrow_alphabet, number_in, ranges_in, width_to_few, window_at,
 };
 
-/// A number of so many bits.
+/// A number and its width in bits.
 #[derive(Clone, Copy, Debug)]
 pub(crate) struct Short {
     /// The number.

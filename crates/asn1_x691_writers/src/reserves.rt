@@ -1,4 +1,4 @@
-//! Bits that are written as zeros and set afterwards, as those that tell which components follow.
+//! Bits that are written as zeros and set afterwards, as presence bits are.
 
 ghost use Rattle.std.specs.Prelude.{◌≡◌, ℕ, Bool, List, true, ◌+◌, ◌*◌, ◌^◌, ◌<◌, ◌++◌, ◌∷◌, length};
 ghost use Rattle.asn1_bits.specs.Bits.{digits};

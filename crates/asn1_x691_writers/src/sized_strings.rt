@@ -94,7 +94,7 @@ pub fn put_added_string(
     put_units(octets, at, is_aligned, unit, source, from, count)
 }
 
-/// Writes so many units, which begin at an octet in the ALIGNED variant, unless their number is
+/// Writes `count` units, which begin at an octet in the ALIGNED variant, unless their number is
 /// fixed and small, or there are none (X.691 16.9, 16.10, 17.6, 17.7).
 fn put_units_of(
     octets: &mut [u8],
@@ -122,7 +122,7 @@ fn put_units_of(
     put_bits(octets, start, source, from, unit * count)
 }
 
-/// Returns whether so many units begin where they are.
+/// Returns whether `count` units begin where they are.
 fn is_inline(unit: usize, least: usize, range: usize, count: usize) -> bool
     requires least { least ≤ count }
     requires most { count ≤ least + range }

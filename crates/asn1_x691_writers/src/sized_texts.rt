@@ -114,7 +114,7 @@ pub(crate) fn put_added_text(
     put_long_text(octets, at, alphabet, source, table, text, is_copied)
 }
 
-/// Writes so many characters, which begin at an octet in the ALIGNED variant, unless there are none
+/// Writes the characters, which begin at an octet in the ALIGNED variant, unless there are none
 /// or they have few bits (X.691 30.5.6, 30.5.7).
 #[inline(always)]
 fn put_sized_characters(

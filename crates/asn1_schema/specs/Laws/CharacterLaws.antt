@@ -71,7 +71,7 @@ module _ (ranges : List Range) (i c : ℕ) (low : characters_below ranges c ≤ 
     | inr le ↦ let few = none_past ranges c (c + 1) le (omega arith) in absurd (omega (arith, few, low, high))
   ]
 
-  -- the character of an index is the one that so many precede
+  -- the character of an index is the one that as many precede
   pub character_is : character_at ranges i ≡ c
   unfolding character_at
   character_is = found (end_of ranges) 0 (omega arith) (omega (arith, before_end))

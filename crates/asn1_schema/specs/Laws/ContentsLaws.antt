@@ -165,7 +165,7 @@ module _ {K X Y : Type 0} (extra : K) (node : ℕ) (A : List Bool → Encoding K
   pub repeated_are_sound : AreSound (repeated extra node A none f)
   repeated_are_sound = by_size_are_sound (λ size. items extra node A none f [] size) (λ size. items_are_sound [] size)
 
--- ---- contents of so many bits
+-- ---- contents of a number of bits
 
 module _ {K X : Type 0} (count : ℕ) (short : K) (node : ℕ) (F : Contents K X) (a : AreSound F) where
   abbrev R : Encoding K X

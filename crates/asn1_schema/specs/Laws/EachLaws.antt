@@ -1,4 +1,4 @@
--- Laws of values that a condition tells, and of so many values.
+-- Laws of values that have a property, and of a number of values.
 use Rattle.std.proofs.Common.{◌≡◌, ℕ, zero, suc, Bool, List, ◌∷◌, ◌++◌, length, sym, ◌∙◌, ap}
 use Rattle.asn1_schema.specs.Encodings.{Encoding, EncodesOne, value_where, each}
 use Rattle.asn1_schema.specs.Laws.EncodingLaws.{IsSound, at_inside}

@@ -46,7 +46,7 @@ invalid_sound {X = X} kind node = record {
   inside = λ list e p. at_inside kind node list e p;
 }
 
--- the digits of a number before a list are so many
+-- the digits of a number before a list are `width`
 pub number_size : (width : ℕ) (list : List Bool) (n : ℕ) (rest : List Bool) → (s : Starts (IsNumber width) list n rest)
     → length s.front ≡ width
 number_size width list n rest s = ap length s.encoded.1 ∙ length-digits n width

@@ -1,4 +1,4 @@
--- Laws of bits as they are, and of numbers in so many bits.
+-- Laws of bits as they are, and of numbers of a width.
 use Rattle.std.proofs.Common.{◌≡◌, ℕ, Bool, List, length, sym, ◌∙◌}
 use Rattle.asn1_schema.specs.Encodings.{EncodesOne, any_bits, number}
 use Rattle.asn1_schema.specs.Fields.{raw_bits}

@@ -1,4 +1,4 @@
--- Laws of types after a header that is in no part: of so many bits, an extension bit, the length of an open type.
+-- Laws of types after a header that is in no part: of some bits, an extension bit, the length of an open type.
 use Rattle.std.proofs.Common.{◌≡◌, ℕ, ◌+◌, ◌≤◌, inl, inr, List, [], ◌∷◌, ◌++◌, Bool, true, false, length, refl, sym, ◌∙◌, ap, subst}
 use Rattle.std.specs.Prelude.{⊤}
 use Rattle.asn1_schema.specs.declared.misfit.MisfitKind.{MisfitKind}
@@ -14,7 +14,7 @@ use Rattle.asn1_schema.specs.Laws.WritingLaws.{AfterPartsBy, IsGood, IsGoodAfter
 abbrev pub IsGoodAfterEverywhere : {K X : Type 0} → (ℕ → AfterHeader K X) → Type 0
 IsGoodAfterEverywhere B = (at : ℕ) → IsGoodAfter (B at)
 
--- ---- a header of so many bits
+-- ---- a header of a number of bits
 
 module _ {K X : Type 0} (H : Encoding K X) (width : ℕ) (B : ℕ → AfterHeader K X) (node : ℕ) (h : IsSound H)
     (one : EncodesOne H.encodes) (size : (x : X) (l : List Bool) → H.encodes x l → length l ≡ width)

@@ -122,7 +122,7 @@ module _ {K : Type 0} (Free : K → Type 0) where
       in_turn_narrow (λ n. H) (λ n. H) (λ x ts. ts) (λ x n. (B n).after x) (λ x n. (Q n).after x) at (same_narrow H)
       (λ x front w. b (at + length front) x)
 
-  -- a condition that holds of the bits of a value of A in both, or whose fault is a limit
+  -- a property that holds of the bits of a value of A in both, or whose fault is a limit
   pub except_narrow : (C D : List Bool → Type 0) (kind : K) (misfit : _) (node : ℕ) (A P : TypeEncoding K)
       → IsNarrow A.encoding P.encoding → ((x : Parts) (l : List Bool) → A.encoding.encodes x l → D l → C l)
       → (Free kind → (x : Parts) (l : List Bool) → A.encoding.encodes x l → C l → D l)

@@ -6,7 +6,7 @@ use Rattle.asn1_schema.specs.Pieces.{Piece, Absent, Parts}
 use Rattle.asn1_schema.specs.Encodings.{Encoding, Contents, constant, invalid, cases, anywhere, with_bits, in_turn, in_case, permitted}
 use Rattle.asn1_schema.specs.TypeEncodings.{TypeEncoding, AfterHeader, nothing, both, several, part, leaf, put, header, except_type, both_by_bits, several_by_bits, end_of_components, mandatory, optional, only_where, either_by_bit, enclosed}
 
--- so many bits more keep two positions of one phase
+-- `n` bits more keep two positions of one phase
 pub record Shifts (phase : ℕ → ℕ) : Type 0 where
   pub on : (p q n : ℕ) → phase p ≡ phase q → phase (p + n) ≡ phase (q + n)
 

@@ -10,7 +10,7 @@ use Rattle.asn1_schema.specs.Values.{held_by, AreValues, none, more}
 
 -- ---- values
 
--- so many values, and others after them
+-- `k` values, and `m` after them
 pub values_append : (m : ℕ) (ys : Parts) {k : ℕ} {xs : Parts} → AreValues k xs → AreValues m ys → AreValues (k + m) (xs ++ ys)
 values_append m ys none w = subst (λ (i : ℕ). AreValues i ys) (sym (zero-add m)) w
 values_append m ys (more {n} p {held} {others} h o) w =
@@ -30,7 +30,7 @@ same_parts {n} {parts} {others} e v = subst (λ (zs : Parts). AreValues n zs) (s
 
 -- ---- types
 
--- the parts of each value of a type are so many values
+-- the parts of each value of a type are `n` values
 abbrev pub GivesValues : {K : Type 0} → ℕ → (ℕ → TypeEncoding K) → Type 0
 GivesValues n A = (at : ℕ) (parts : Parts) (list : List Bool) → (A at).encoding.encodes parts list → AreValues n parts
 

@@ -148,7 +148,7 @@ module _ (aligned : Bool) (ranges : List Range) (node : ℕ) where
       let count : x.0 ≡ y.0 = sym p ∙ ap length e ∙ q in
       ap (λ (c : ℕ). (c, x.1)) count ∙ ap (λ (b : List ℕ). (y.0, b)) e
 
-  -- in so many fragments at most
+  -- in at most `most` fragments
   module _ (most : ℕ) where
     text_where_sound : (Yes No : ℕ → Type 0) (kind : FaultKind) → ((n : ℕ) → Yes n → No n → ⊥)
         → IsSoundEverywhere (text_where most aligned ranges node Yes No kind)

@@ -36,7 +36,7 @@ units_octets_sound node = then_of number_of (units_after_sound node)
 pub units_next_sound : (aligned : Bool) (node : ℕ) → IsSoundEverywhere (units_next aligned node)
 units_next_sound aligned node = on_octet_sound aligned node (units_octets node) (units_octets_sound node)
 
--- a fragment of so many times 16,384 units, by its first octet
+-- a fragment of `times` times 16,384 units, by its first octet
 record IsFragment (first n : ℕ) : Type 0 where
   times : ℕ
   some : 1 ≤ times
@@ -185,7 +185,7 @@ module _ {Y : Type 0} (U : ℕ → ℕ → Encoding FaultKind Y) (join : Y → Y
           let count : u.0 ≡ v.0 = omega (arith, f) in
           (same.0, ap (λ (c : ℕ). (c, u.1)) count ∙ ap (λ (y : Y). (v.0, y)) same.1))
 
-    -- the number that all units have, where so many come next
+    -- the number that all units have, where `n` come next
     abbrev CountOf : ℕ → ℕ → Type 0
     CountOf n c =
         ((n < 16384) × (c ≡ n)) ⊎ ((16384 ≤ n) × (n < 65536) × ((more : ℕ) × (more < 16384) × (c ≡ n + more)))
@@ -268,7 +268,7 @@ string_one most aligned unit node =
 
 -- ---- octets
 
--- so many units have so many bits, which are no more than the whole
+-- the bits of a number of units, which are no more than the whole
 pub record IsHeld (unit : ℕ) (v : ℕ × List Bool) (list : List Bool) : Type 0 where
   pub size : length v.1 ≡ unit * v.0
   pub within : length v.1 ≤ length list

@@ -140,7 +140,7 @@ module _ (aligned : Bool) (node : ℕ) where
     bits_by_of false at x k p = (k, p)
     bits_by_of true at x k p = permitted_of (AreTrimmed size) (λ bits. ¬ (AreTrimmed size bits)) NotTrimmed node A at x k p
 
--- in so many fragments at most
+-- in at most `most` fragments
 module _ (most : ℕ) (aligned : Bool) (node : ℕ) where
   pub octet_string_type : (size : Length) (b : Bool) → IsType (octet_string most aligned node size b)
   octet_string_type size b =

@@ -34,7 +34,7 @@ module _ {Y : Type 0} (U V : ℕ → ℕ → Encoding FaultKind Y) (u : (n : ℕ
   abbrev N : ℕ → Encoding FaultKind ℕ
   N = units_next aligned node
 
-  -- what follows a number that begins a fragment, where so many more fragments may follow
+  -- what follows a number that begins a fragment, where `more` more fragments may follow
   abbrev Long : (ℕ → ℕ → Encoding FaultKind Y) → ℕ → ℕ → ℕ → Encoding FaultKind (ℕ × Y)
   Long T more n = in_case (n < 65536) (units_then T join aligned node n (last_units T join aligned node)) (65536 ≤ n)
       (units_then T join aligned node n (all_units T join aligned node more))

@@ -93,7 +93,7 @@ module _ (A : ℕ → ℕ → TypeEncoding FaultKind) (aligned : Bool) (node : �
 
   -- ---- what is read is written so
 
-  -- so many items, the rest of whose bits R says
+  -- `n` items, the rest of whose bits R says
   fragment_made : (n at : ℕ) (R : ℕ → TypeEncoding FaultKind) (y zs : Parts) (k f g h : List Bool) → (N at).encodes n f
       → (U n (at + length f)).encodes y g → (R (at + length f + length g)).encoding.encodes zs h → k ≡ f ++ (g ++ h)
       → (fragment_then A aligned node n R at).encoding.encodes (y ++ zs) k
@@ -132,7 +132,7 @@ module _ (A : ℕ → ℕ → TypeEncoding FaultKind) (aligned : Bool) (node : �
       (subst (λ (xs : Parts). (fragment_then A aligned node n nothing at).encoding.encodes xs l) (append-nil q.value)
       (fragment_made n at nothing q.value [] l f q.front q.rest p q.first (refl, q.second.1) (e ∙ ap (λ (m : List Bool). f ++ m) q.parts))))
 
-  -- ---- what is read is so many fragments
+  -- ---- what is read is a number of fragments
 
   last_told : (n at : ℕ) (f k : List Bool) (v : ℕ × Parts) (l : List Bool) → n < 16384 → (N at).encodes n f
       → (units U J aligned node n (at + length f)).encodes v k → l ≡ f ++ k → (v.0 < 16384) × (Below v.0 at).encoding.encodes v.1 l

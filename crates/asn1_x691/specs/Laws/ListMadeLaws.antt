@@ -28,7 +28,7 @@ module _ (A : ℕ → ℕ → TypeEncoding FaultKind) (aligned : Bool) (node : �
   abbrev Whole : ℕ → ℕ → ℕ → TypeEncoding FaultKind
   Whole whole left = whole_fragments_then A aligned node whole (Below left)
 
-  -- so many items after their number, and the others
+  -- `n` items after their number, and the others
   record IsFragment (n at : ℕ) (R : ℕ → TypeEncoding FaultKind) (xs : Parts) (k : List Bool) : Type 0 where
     here : Parts
     others : Parts

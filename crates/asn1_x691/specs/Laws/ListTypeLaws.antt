@@ -29,7 +29,7 @@ module _ (A : ℕ → ℕ → TypeEncoding FaultKind) (aligned : Bool) (node : �
     abbrev H : ℕ → Parts → List Bool → Type 0
     H at xs k = (list_where A aligned node most Yes No kind at).encoding.encodes xs k
 
-    -- so many items, with the part that tells their number
+    -- `count` items, with the part that tells their number
     pub record IsList (at : ℕ) (xs : Parts) (k : List Bool) : Type 0 where
       pub count : ℕ
       pub items : Parts

@@ -78,7 +78,7 @@ small_number_one aligned node =
     (λ x y u v at m n i j k l p q r s e.
     (same_bit x y u v p.0 q.0 (small_or_large aligned node x m u k r) (small_or_large aligned node y n v l s) e, e))
 
--- ---- with a sign
+-- ---- signed
 
 -- z is u, or u below -1
 abbrev IsOfSize : ℕ → ℤ → Type 0
@@ -90,7 +90,7 @@ same_size u v z (inl p) (inr q) = let e : pos u ≡ negsuc v = sym p ∙ q in cc
 same_size u v z (inr p) (inl q) = let e : negsuc u ≡ pos v = sym p ∙ q in cc
 same_size u v z (inr p) (inr q) = let e : negsuc u ≡ negsuc v = sym p ∙ q in cc
 
--- so many octets of two's complement hold a value of this size, and no fewer do
+-- `count` octets of two's complement hold a value of this size, and no fewer do
 record IsSigned (count u : ℕ) : Type 0 where
   below : u < 2 ^ (8 * count - 1)
   fewest : (count ≤ 1) ⊎ (2 ^ (8 * count - 9) ≤ u)

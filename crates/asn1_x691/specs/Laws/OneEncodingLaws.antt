@@ -79,7 +79,7 @@ same_count zero (suc n) p q = absurd (p (omega arith))
 same_count (suc m) zero p q = absurd (q (omega arith))
 same_count (suc m) (suc n) p q = ap suc (same_count m n (λ r. p (omega (arith, r))) (λ r. q (omega (arith, r))))
 
--- so many octets hold the number, and no fewer do
+-- `count` octets hold the number, and no fewer do
 pub record IsMinimal (count d : ℕ) : Type 0 where
   pub below : d < 2 ^ (8 * count)
   pub fewest : (count ≤ 1) ⊎ (2 ^ (8 * (count - 1)) ≤ d)

@@ -46,7 +46,7 @@ front_alone a b e = ap (λ (c : List Bool). length (a ++ c)) e ∙ ap length (ap
 pub bit_size : (node : ℕ) (b : Bool) (list : List Bool) → (bit node).encodes b list → length list ≡ 1
 bit_size node b list p = ap length p.parts ∙ front_alone p.front p.rest p.second.1 ∙ p.first.0
 
--- ---- so many units
+-- ---- a number of units
 
 inline_or_not : (unit least range n : ℕ) → IsInline unit least range n → IsOnOctet unit least range n → ⊥
 inline_or_not unit least range n (inl p) q = omega (arith, p, q.0)
@@ -77,7 +77,7 @@ sizes_apart (AtLeast least) n p q = omega (arith, p, q)
 sizes_apart (Between least range) n (inl p) q = omega (arith, p, q.0)
 sizes_apart (Between least range) n (inr p) q = omega (arith, p, q.1)
 
--- ---- strings, where units have bits: so many bits are those of one number of units
+-- ---- strings, where units have bits: bits are those of one number of units
 
 module _ (most : ℕ) (aligned : Bool) (unit node : ℕ) (apart : (m n : ℕ) → unit * m ≡ unit * n → m ≡ n) where
   pub sized_string_sound : (least range : ℕ) → IsSoundEverywhere (sized_string aligned unit least range node)

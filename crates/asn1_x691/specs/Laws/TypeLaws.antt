@@ -31,7 +31,7 @@ use Rattle.asn1_x691.specs.Laws.FieldLaws.{constrained_sound, small_length_sound
 use Rattle.asn1_x691.specs.Laws.OneEncodingLaws.{constrained_one, small_length_one, inner}
 use Rattle.asn1_x691.specs.Laws.NumberLaws.{small_number_one}
 use Rattle.asn1_x691.specs.Laws.StringLaws.{bit_sound, bit_one}
-use Rattle.asn1_x691.specs.Limits.{Limits}
+use Rattle.asn1_x691.specs.Limits.{Limits, bit_fragments}
 use Rattle.asn1_x691.specs.Fragments.{octets}
 use Rattle.asn1_x691.specs.Laws.FragmentLaws.{octets_sound, octets_one}
 use Rattle.asn1_x691.specs.Laws.OpenTypeLaws.{open_type_good}
@@ -234,14 +234,14 @@ module _ (limits : Limits) (aligned : Bool) (E : ℕ → ℕ → TypeEncoding Fa
       integer_at_least_by_type aligned node is_extensible bound.least
   type_of_type (Some type.Integer) = integer_type aligned node
   type_of_type (Some (type.Enumerated last is_extensible known)) = enumerated_by_type aligned node is_extensible last known
-  type_of_type (Some (type.BitString size is_extensible has_names)) = bit_string_type limits.fragments aligned node size is_extensible has_names
-  type_of_type (Some (type.OctetString size is_extensible)) = octet_string_type limits.octet_fragments aligned node size is_extensible
+  type_of_type (Some (type.BitString size is_extensible has_names)) = bit_string_type (bit_fragments limits has_names) aligned node size is_extensible has_names
+  type_of_type (Some (type.OctetString size is_extensible)) = octet_string_type limits.string_fragments aligned node size is_extensible
   type_of_type (Some (type.Text size is_extensible alphabet whole)) =
       text_type limits.fragments aligned node size is_extensible (slice_range ranges alphabet.from (alphabet.from + alphabet.count))
       (slice_range ranges whole.from (whole.from + whole.count))
   type_of_type (Some type.ObjectIdentifier) = contents_type limits.fragments aligned node IsObjectIdentifier
   type_of_type (Some type.RelativeIdentifier) = contents_type limits.fragments aligned node IsRelativeIdentifier
-  type_of_type (Some type.Utf8String) = contents_type limits.fragments aligned node IsUtf8Text
+  type_of_type (Some type.Utf8String) = contents_type limits.string_fragments aligned node IsUtf8Text
   type_of_type (Some type.Real) = contents_type limits.fragments aligned node IsReal
   type_of_type (Some (type.Time kind)) = time_type limits.fragments aligned node (IsTime kind)
   type_of_type (Some (type.Sequence root is_extensible known)) = sequence_by_type is_extensible root known

@@ -354,16 +354,17 @@ module _ (limits : Limits) (within : AreWithin limits) (aligned : Bool) (E F : �
   type_of_narrow (Some (type.IntegerAtLeast bound b)) = λ at. same_narrow IsNoLimit (T (Some (type.IntegerAtLeast bound b)) at).encoding
   type_of_narrow (Some type.Integer) = λ at. same_narrow IsNoLimit (T (Some type.Integer) at).encoding
   type_of_narrow (Some (type.Enumerated last b known)) = λ at. same_narrow IsNoLimit (T (Some (type.Enumerated last b known)) at).encoding
-  type_of_narrow (Some (type.BitString size b has_names)) =
-      bit_string_narrow fs most_fragments within.fragments aligned node size b has_names
+  type_of_narrow (Some (type.BitString size b false)) =
+      bit_string_narrow limits.string_fragments most_fragments within.string_fragments aligned node size b false
+  type_of_narrow (Some (type.BitString size b true)) = bit_string_narrow fs most_fragments within.fragments aligned node size b true
   type_of_narrow (Some (type.OctetString size b)) =
-      octet_string_narrow limits.octet_fragments most_fragments within.octet_fragments aligned node size b
+      octet_string_narrow limits.string_fragments most_fragments within.string_fragments aligned node size b
   type_of_narrow (Some (type.Text size b alphabet whole)) =
       text_narrow fs most_fragments within.fragments aligned node size b (slice_range ranges alphabet.from (alphabet.from + alphabet.count))
       (slice_range ranges whole.from (whole.from + whole.count))
   type_of_narrow (Some type.ObjectIdentifier) = contents_narrow fs most_fragments within.fragments aligned node IsObjectIdentifier
   type_of_narrow (Some type.RelativeIdentifier) = contents_narrow fs most_fragments within.fragments aligned node IsRelativeIdentifier
-  type_of_narrow (Some type.Utf8String) = contents_narrow fs most_fragments within.fragments aligned node IsUtf8Text
+  type_of_narrow (Some type.Utf8String) = contents_narrow limits.string_fragments most_fragments within.string_fragments aligned node IsUtf8Text
   type_of_narrow (Some type.Real) = contents_narrow fs most_fragments within.fragments aligned node IsReal
   type_of_narrow (Some (type.Time kind)) = time_narrow fs most_fragments within.fragments aligned node (IsTime kind)
   type_of_narrow (Some (type.Sequence root b known)) = sequence_by_narrow b root known

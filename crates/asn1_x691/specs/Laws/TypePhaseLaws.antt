@@ -28,7 +28,7 @@ use Rattle.asn1_x691.specs.Characters.{text_of, added_text, IsAddedText}
 use Rattle.asn1_x691.specs.Contents.{IsObjectIdentifier, IsRelativeIdentifier, IsUtf8Text}
 use Rattle.asn1_x691.specs.OpenTypes.{complete, enclosing, open_type}
 use Rattle.asn1_x691.specs.Lists.{list_where}
-use Rattle.asn1_x691.specs.Limits.{Limits, IsOffOctet, IsEmptyFragment}
+use Rattle.asn1_x691.specs.Limits.{Limits, bit_fragments, IsOffOctet, IsEmptyFragment}
 use Rattle.asn1_x691.specs.Leaves.{by_extension_bit, from_least, IsBetween, IsOutside, IsAddedInteger, value_of_addition, IsAddedValue, AreAddedBits, AreAddedOctets, AreTrimmed, integer_between, integer_at_least, extensible_integer, integer_between_by, integer_at_least_by, enumerated, enumerated_by, string_by, bits_by, bit_string, octet_string, text, contents, visible, time}
 use Rattle.asn1_x691.specs.Types.{no_node, alternative_of_addition, IsAddedAlternative, IsMisplaced, optional_count, count_from, IsAddedCount, length_at_least, added_length, any_true, value_by, component_by, component, components, root_of, sequence, known_addition, addition, additions_by_bits, some_additions, extension, IsExtended, sequence_by, in_order, items, fragment_items, items_at_least, sequence_of, added_items, sequence_of_by, alternative_if, choice, added, choice_extension, choice_by, type_of, type_at}
 use Rattle.asn1_x691.specs.Laws.PhaseLaws.{shifts, constrained_follows, length_follows, small_length_follows, semi_constrained_follows, unconstrained_follows, small_number_follows, all_units_follow, octets_follow, string_of_follows, added_string_follows, text_of_follows, added_text_follows}
@@ -337,14 +337,14 @@ module _ (limits : Limits) (aligned : Bool) (E : ℕ → ℕ → TypeEncoding Fa
   type_of_follows (Some type.Integer) =
       leaf_agrees Ph (unconstrained aligned node) Integer node (unconstrained_follows aligned node)
   type_of_follows (Some (type.Enumerated last b known)) = enumerated_by_follows aligned node b last known
-  type_of_follows (Some (type.BitString size b has_names)) = bit_string_follows aligned node limits.fragments size b has_names
-  type_of_follows (Some (type.OctetString size b)) = octet_string_follows aligned node limits.octet_fragments size b
+  type_of_follows (Some (type.BitString size b has_names)) = bit_string_follows aligned node (bit_fragments limits has_names) size b has_names
+  type_of_follows (Some (type.OctetString size b)) = octet_string_follows aligned node limits.string_fragments size b
   type_of_follows (Some (type.Text size b alphabet whole)) =
       text_follows aligned node limits.fragments size b (slice_range ranges alphabet.from (alphabet.from + alphabet.count))
       (slice_range ranges whole.from (whole.from + whole.count))
   type_of_follows (Some type.ObjectIdentifier) = contents_follow aligned node limits.fragments IsObjectIdentifier
   type_of_follows (Some type.RelativeIdentifier) = contents_follow aligned node limits.fragments IsRelativeIdentifier
-  type_of_follows (Some type.Utf8String) = contents_follow aligned node limits.fragments IsUtf8Text
+  type_of_follows (Some type.Utf8String) = contents_follow aligned node limits.string_fragments IsUtf8Text
   type_of_follows (Some type.Real) = contents_follow aligned node limits.fragments IsReal
   type_of_follows (Some (type.Time kind)) = time_follows aligned node limits.fragments (IsTime kind)
   type_of_follows (Some (type.Sequence root b known)) = sequence_by_follows b root known

@@ -303,7 +303,7 @@ module _ (limits : Limits) (aligned : Bool) (E : ℕ → ℕ → TypeEncoding Fa
       string_by_gives aligned node is_extensible _ _ Text (IsAddedText size) (λ x. refl)
   type_gives (Some type.ObjectIdentifier) = contents_gives aligned node limits.fragments IsObjectIdentifier
   type_gives (Some type.RelativeIdentifier) = contents_gives aligned node limits.fragments IsRelativeIdentifier
-  type_gives (Some type.Utf8String) = contents_gives aligned node limits.fragments IsUtf8Text
+  type_gives (Some type.Utf8String) = contents_gives aligned node limits.string_fragments IsUtf8Text
   type_gives (Some type.Real) = contents_gives aligned node limits.fragments IsReal
   type_gives (Some (type.Time kind)) = time_gives aligned node limits.fragments (IsTime kind)
   type_gives (Some (type.Sequence root is_extensible known)) = sequence_by_gives is_extensible root known

@@ -15,7 +15,7 @@ unfolding most_item_fragments most_fragments
 few_fragments = omega arith
 
 within : AreWithin decoder_limits
-within = record { octet_fragments = omega arith; fragments = omega arith; item_fragments = few_fragments; sets_on_octets = refl }
+within = record { string_fragments = omega arith; fragments = omega arith; item_fragments = few_fragments; sets_on_octets = refl }
 
 narrow : (c : Context) (depth node : ℕ) → NarrowTypes (types c depth node) (unlimited_types c depth node)
 narrow c depth node =

@@ -1,3 +1,4 @@
+use Rattle.asn1_x691.specs.Fragments.{most_fragments}
 use Rattle.asn1_x691.specs.Contents.{IsUtf8Text}
 use Rattle.asn1_x691.specs.Leaves.{contents}
 use Rattle.asn1_x691_decode.proofs.Steps.{kept_outcome}
@@ -9,5 +10,5 @@ returns-clause-did c =
     let a = c.args in
     let p = c.next_utf8_string-part in
     let k = c.keep in
-    kept_outcome cx (λ at. (contents 0 cx.is_aligned a.node IsUtf8Text at).encoding) a.state.now p.new.state k.new.state a.parts.now k.new.parts p.result k.result
+    kept_outcome cx (λ at. (contents most_fragments cx.is_aligned a.node IsUtf8Text at).encoding) a.state.now p.new.state k.new.state a.parts.now k.new.parts p.result k.result
     p.ensures.onward (p.ensures.read cx.tables.ranges.now) (record { at = k.ensures.at; first = k.ensures.first; end = k.ensures.end }) k.ensures.kept

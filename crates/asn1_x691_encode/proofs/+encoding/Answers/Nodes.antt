@@ -5,7 +5,8 @@ use Rattle.asn1_schema.specs.declared.tables.Node.TheVariants as type
 use Rattle.asn1_schema.specs.TypeEncodings.{TypeEncoding}
 use Rattle.asn1_x691.specs.declared.fault.FaultKind.{FaultKind}
 use Rattle.asn1_x691_encode.specs.Encoding.{extensible_choice_in, Outcome, choice_in, list_by, sequence_in}
-use Rattle.asn1_x691_encode.specs.LeafSteps.{at_node}
+use Rattle.asn1_x691.specs.Leaves.{bit_string}
+use Rattle.asn1_x691_encode.specs.LeafSteps.{at_node, same_limit}
 use Rattle.asn1_x691_encode.proofs.+encoding.Goals as goal
 
 pub encode_node-returns-in-Null : goal.encoder::encode_node-returns-in-Null
@@ -69,7 +70,9 @@ encode_node-returns-in-BitString t c =
     at_node cx c.args.node c.args.depth (Some (type.BitString k.length k.is_extensible k.has_names))
     (λ (A : ℕ → TypeEncoding FaultKind). Outcome cx A c.args.octets.now c.args.state.now c.encode_bits.new.octets c.encode_bits.new.state c.encode_bits.result)
     (omega (arith, c.if-depth-eq0.false)) (sym c.in-Some.ensures ∙ ap (λ (n : Node). Some n) c.in-BitString.is)
-    (λ d r. c.encode_bits.ensures)
+    (λ d r.
+    subst (λ (n : ℕ). Outcome cx (bit_string n cx.is_aligned c.args.node k.length k.is_extensible k.has_names) c.args.octets.now c.args.state.now
+    c.encode_bits.new.octets c.encode_bits.new.state c.encode_bits.result) (same_limit k.has_names) c.encode_bits.ensures)
 
 pub encode_node-returns-in-OctetString : goal.encoder::encode_node-returns-in-OctetString
 encode_node-returns-in-OctetString t c =

@@ -9,7 +9,7 @@ use Rattle.asn1_schema.specs.Times.{IsTime}
 use Rattle.asn1_x691_fields.specs.ContentSteps.{same_span}
 use Rattle.asn1_x691_fields.proofs.times.is_time_at.Goals as goal
 
--- so many octets are inside
+-- `count` octets are inside
 octets_inside : (at width count size : ℕ) → width ≡ 8 → at + width * count ≤ size → at + 8 * count ≤ size
 octets_inside at width count size e h = subst (λ (w : ℕ). at + w * count ≤ size) e h
 

@@ -2,7 +2,7 @@ use Rattle.std.proofs.Common.{◌+◌, ◌-◌, ◌++◌, arith}
 use Rattle.asn1_bits.specs.Bits.{bits}
 use Rattle.asn1_bits.specs.Laws.DigitLaws.{length-bits}
 use Rattle.asn1_schema.specs.PiecesOfParts.{bits_of}
-use Rattle.asn1_x691_writers.specs.JoinedSteps.{part_run, middle_run, last_run}
+use Rattle.asn1_x691_fields.specs.JoinedSteps.{part_run, middle_run, last_run}
 use Rattle.asn1_x691_writers.proofs.JoinedLemmas.{same_run}
 use Rattle.asn1_x691_writers.proofs.joined.run_after.Goals as goal
 

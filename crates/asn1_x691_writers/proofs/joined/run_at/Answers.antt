@@ -3,7 +3,8 @@ use Rattle.asn1_bits.specs.Bits.{bits}
 use Rattle.asn1_bits.specs.Laws.DigitLaws.{length-bits}
 use Rattle.asn1_schema.specs.PiecesOfParts.{bits_of, bits_at}
 use Rattle.asn1_x691_writers.specs.Joined.{bits_in}
-use Rattle.asn1_x691_writers.specs.JoinedSteps.{fragment_run, after_run, length_in}
+use Rattle.asn1_x691_fields.specs.JoinedSteps.{fragment_run}
+use Rattle.asn1_x691_writers.specs.JoinedSteps.{after_run, length_in}
 use Rattle.asn1_x691_writers.proofs.joined.run_at.Goals as goal
 
 pub overflow_mul-result : goal.overflow_mul-result

@@ -6,16 +6,16 @@ use Rattle.asn1_x691.specs.Fragments.{most_fragments, string}
 use Rattle.asn1_x691.specs.Strings.{where_size}
 use Rattle.asn1_x691_fields.specs.Outcomes.{fault_of}
 use Rattle.asn1_x691_fields.specs.Steps.{turn_fault, fault_at}
-use Rattle.asn1_x691_fields.proofs.long_octets.next_long_octets.Goals as goal
+use Rattle.asn1_x691_fields.proofs.long_strings.next_long_units.Goals as goal
 
 pub returns-then-count-least-clause-read : goal.returns-then-count-least-clause-read
 returns-then-count-least-clause-read c =
     let list = bits c.args.octets.now in
     let node = c.args.node in
     let mid = c.next_in_fragments.new.state in
-    turn_fault list c.args.state.now mid c.requires.within c.in_ok-count.ensures.onward (string most_fragments c.args.is_aligned 8 node)
+    turn_fault list c.args.state.now mid c.requires.within c.in_ok-count.ensures.onward (string most_fragments c.args.is_aligned c.args.unit node)
     (λ v bits. bits) (λ v. where_size (λ n. c.args.least ≤ n) (λ n. n < c.args.least) BelowLeast node v)
-    (c.in_ok-count.count, joined 8 list c.in_ok-count.fragments) c.in_ok-count.ensures.read (fault_of c.fail.new.state)
+    (c.in_ok-count.count, joined c.args.unit list c.in_ok-count.fragments) c.in_ok-count.ensures.read (fault_of c.fail.new.state)
     (inr (
       c.if-count-least.true,
       fault_at list mid c.fail.new.state node BelowLeast c.in_ok-count.ensures.onward.inside

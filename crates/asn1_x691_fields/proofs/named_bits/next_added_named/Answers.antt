@@ -1,4 +1,4 @@
-use Rattle.std.proofs.Common.{◌∷◌, [], inl, refl}
+use Rattle.std.proofs.Common.{true, ◌∷◌, [], inl, refl}
 use Rattle.asn1_bits.specs.Bits.{bits}
 use Rattle.asn1_schema.specs.Pieces.{Bits}
 use Rattle.asn1_schema.specs.PiecesOfParts.{piece_of, bits_of}
@@ -11,7 +11,7 @@ use Rattle.asn1_x691_fields.specs.StringSteps.{none_read}
 use Rattle.asn1_x691_fields.specs.Steps.{fault_at}
 use Rattle.asn1_x691_fields.specs.LeafSteps.{leaf_starts}
 use Rattle.asn1_x691_fields.specs.TrimmedSteps.{named_starts, named_fault, unnamed_fault}
-use Rattle.asn1_x691_fields.proofs.bit_strings.next_added_bits.Goals as goal
+use Rattle.asn1_x691_fields.proofs.named_bits.next_added_named.Goals as goal
 
 pub returns-in_err-span-clause-read : goal.returns-in_err-span-clause-read
 returns-in_err-span-clause-read c ranges =
@@ -19,21 +19,20 @@ returns-in_err-span-clause-read c ranges =
     let node = c.args.node in
     let A = added_string 0 c.args.is_aligned 1 c.args.size node in
     let mid = c.next_added_string.new.state in
-    none_read (λ at. (leaf (bits_by c.args.is_aligned node c.args.has_names c.args.size A) Bits node at).encoding)
+    none_read (λ at. (leaf (bits_by c.args.is_aligned node true c.args.size A) Bits node at).encoding)
     (λ p. piece_of ranges list p ∷ []) list c.args.state.now mid c.from_residual.result c.from_residual.ensures
-    (inl (unnamed_fault c.args.is_aligned node c.args.size A c.args.has_names (position c.args.state.now) (rest list c.args.state.now)
+    (inl (unnamed_fault c.args.is_aligned node c.args.size A true (position c.args.state.now) (rest list c.args.state.now)
     (fault_of mid) c.in_err-span.ensures.read))
 
-pub returns-then-not-are_permitted-clause-read : goal.returns-then-not-are_permitted-clause-read
-returns-then-not-are_permitted-clause-read c ranges =
+pub returns-then-not-are_trimmed-clause-read : goal.returns-then-not-are_trimmed-clause-read
+returns-then-not-are_trimmed-clause-read c ranges =
     let list = bits c.args.octets.now in
     let node = c.args.node in
     let size = c.args.size in
     let mid = c.next_added_string.new.state in
-    let p = c.are_permitted.ensures.forbidden c.if-not-are_permitted.true in
     inl (named_fault c.args.is_aligned node size (added_string 0 c.args.is_aligned 1 size node) list c.args.state.now mid c.requires.within
-    c.in_ok-span.ensures.onward (bits_of list c.in_ok-span.span) c.in_ok-span.ensures.read c.args.has_names (fault_of c.fail.new.state)
-    p.0 p.1
+    c.in_ok-span.ensures.onward (bits_of list c.in_ok-span.span) c.in_ok-span.ensures.read true (fault_of c.fail.new.state)
+    refl (c.are_trimmed.ensures.no c.if-not-are_trimmed.true)
     (fault_at list mid c.fail.new.state node NotTrimmed c.in_ok-span.ensures.onward.inside
     c.fail.ensures.at c.fail.ensures.end c.fail.ensures.node c.fail.ensures.kind))
 
@@ -44,8 +43,8 @@ returns-clause-read c ranges =
     let size = c.args.size in
     let A = added_string 0 c.args.is_aligned 1 size node in
     let mid = c.next_added_string.new.state in
-    leaf_starts (bits_by c.args.is_aligned node c.args.has_names size A) Bits node (position c.args.state.now)
+    leaf_starts (bits_by c.args.is_aligned node true size A) Bits node (position c.args.state.now)
     (rest list c.args.state.now) (rest list mid) (bits_of list c.in_ok-span.span) (Bits (bits_of list c.in_ok-span.span)) refl
     (named_starts c.args.is_aligned node size A list c.args.state.now mid c.requires.within
-    c.in_ok-span.ensures.onward (bits_of list c.in_ok-span.span) c.in_ok-span.ensures.read c.args.has_names
-    (c.are_permitted.ensures.permitted c.if-not-are_permitted.false))
+    c.in_ok-span.ensures.onward (bits_of list c.in_ok-span.span) c.in_ok-span.ensures.read true
+    (λ names. c.are_trimmed.ensures.yes c.if-not-are_trimmed.false))

@@ -3,7 +3,7 @@ use Rattle.std.proofs.lemmas.Bool.{eqb-true}
 use Rattle.asn1_bits.specs.Bits.{bits}
 use Rattle.asn1_bits.specs.Laws.DigitLaws.{length-bits}
 use Rattle.asn1_x691_fields.specs.TrimmedSteps.{of_least, last_one, last_zero}
-use Rattle.asn1_x691_fields.proofs.bit_strings.are_trimmed.Goals as goal
+use Rattle.asn1_x691_fields.proofs.named_bits.are_trimmed.Goals as goal
 
 pub returns-then-span-least-clause-yes : goal.returns-then-span-least-clause-yes
 returns-then-span-least-clause-yes c e =
