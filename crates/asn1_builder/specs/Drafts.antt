@@ -47,7 +47,7 @@ abbrev pub value_type : (ℕ → Option Node) → Option Node → Option Node
 value_type inside (Some (type.Open inner)) = inside inner
 value_type inside n = n
 
--- the type at a node; of an open type, that of its value, through so many open types
+-- the type at a node; of an open type, that of its value, through a number of open types
 abbrev pub type_through : ℕ → Tables → ℕ → Option Node
 type_through zero t node = None
 type_through (suc most) t node = value_type (type_through most t) (slice_get t.nodes.now node)

@@ -68,7 +68,7 @@ if_few true (Err e) = Err e
 if_few false (Ok done) = Err error.TooLong
 if_few false (Err e) = Err e
 
--- there is room for so many octets more
+-- there is room for `more` octets
 abbrev pub are_few : Draft → ℕ → Bool
 are_few d more = nat_lt (length d.octets + more) (2 ^ 61)
 
@@ -82,7 +82,7 @@ string_part kind.Unbounded s = part.Signed s
 string_part kind.Bits s = part.Bits s
 string_part _ s = part.Octets s
 
--- a value of so many bits, in octets of its own
+-- a value of `bits` bits, in octets of its own
 abbrev pub string : Kind → ℕ → List ℕ → Draft → Result Draft BuildError
 string k bits octets d =
     if_few (are_few d (length octets)) (by_type k (expected_type d) (put d (string_part k (span_after d bits)) octets))
@@ -95,7 +95,7 @@ abbrev pub if_enough : Bool → Result Draft BuildError → Result Draft BuildEr
 if_enough true r = r
 if_enough false r = Err error.TooShort
 
--- the first bits of octets, so many
+-- the first `count` bits of octets
 abbrev pub bit_string : ℕ → List ℕ → Draft → Result Draft BuildError
 bit_string count octets d = if_enough (nat_le count (8 * length octets)) (string kind.Bits count octets d)
 
@@ -182,7 +182,7 @@ root_end of true index = of.root.count
 abbrev pub RootMayBeAbsent : Draft → Components → Bool → ℕ → Type 0
 RootMayBeAbsent d of is_addition index = of.is_extended ≡ false → MayBeAbsent d of.root of.passed (root_end of is_addition index)
 
--- the parts of components that are absent, so many
+-- the parts of `count` components that are absent
 abbrev pub absent : ℕ → List Part
 absent count = replicate count part.Absent
 

@@ -36,7 +36,7 @@ impl<'s> Builder<'s> {
         }
     }
 
-    /// Returns the span that so many bits have in octets that are appended.
+    /// Returns the span that `bits` bits have in octets that are appended.
     pub(crate) fn span_of(&self, bits: usize) -> Span
         ensures { result ≡ span_after (draft_of self.now) bits }
     {
@@ -46,7 +46,7 @@ impl<'s> Builder<'s> {
         }
     }
 
-    /// Returns whether there is room for so many octets more.
+    /// Returns whether there is room for `more` octets.
     pub(crate) fn has_room(&self, more: usize) -> bool
         ensures { result ≡ are_few (draft_of self.now) more }
     {
@@ -61,7 +61,7 @@ impl<'s> Builder<'s> {
         self.put(part, &[])
     }
 
-    /// Appends the first bits of octets, so many.
+    /// Appends the first `bits` bits of octets.
     fn string(&mut self, kind: Kind, bits: usize, octets: &[u8]) -> Result<(), BuildError>
         ensures { IsStep (string_of kind bits octets.now (draft_of self.old)) result
             (draft_of self.old) (draft_of self.new) }

@@ -167,7 +167,7 @@ impl<'s> Builder<'s> {
         Ok(())
     }
 
-    /// Returns the SEQUENCE or SET that was begun last, where a component of it may be told.
+    /// Returns the SEQUENCE or SET that was begun last, if a component of it may be named.
     fn inside(&self) -> Result<Components, BuildError>
         ensures { MatchResult result (λ of. IsInside (draft_of self.now) of)
             (λ e. IsInsideNone (draft_of self.now) e) }

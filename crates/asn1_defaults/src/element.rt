@@ -2,9 +2,10 @@
 
 use asn1_resolve::Schema;
 use asn1_schema::Part;
-use asn1_x690_encode::{Context, encode};
+use asn1_x690_encode::{Context, encode, measure};
 use asn1_x691_encode::Defaults;
 use std::alloc::{AllocError, Global};
+use std::cell::Cell;
 
 /// How deep a value may be nested.
 const DEPTH: usize = 64;
@@ -20,6 +21,10 @@ pub(crate) fn element_of<'x>(
     if source.len() > 1 << 60 || parts.len() > 1 << 60 {
         return Ok(None);
     }
+    let mut lengths = Vec::new(alloc);
+    for _ in parts {
+        lengths.push(Cell::new(0))?;
+    }
     let context = Context {
         tables: schema.tables(),
         tags: schema.tag_tables(),
@@ -29,8 +34,10 @@ pub(crate) fn element_of<'x>(
         },
         parts,
         source,
+        is_ordered: true,
+        lengths: lengths.as_slice(),
     };
-    let Ok(needed) = encode(&context, DEPTH, node, &mut []) else {
+    let Ok(needed) = measure(&context, DEPTH, node) else {
         return Ok(None);
     };
     if needed.octets > 1 << 60 {

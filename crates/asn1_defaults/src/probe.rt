@@ -1,4 +1,4 @@
-//! Encodes a value after so many bits of an octet.
+//! Encodes a value after the first bits of an octet.
 //!
 //! In the ALIGNED variant the encoding of a value depends on how many bits of an octet precede it. So
 //! a SEQUENCE is encoded that has up to seven BOOLEANs before the value, and a BOOLEAN that is TRUE
@@ -91,7 +91,7 @@ impl Probe {
         })
     }
 
-    /// Sets the SEQUENCE: so many BOOLEANs, a value of the type at a node, and a BOOLEAN.
+    /// Sets the SEQUENCE: `before` BOOLEANs, a value of the type at a node, and a BOOLEAN.
     fn set(&mut self, node: usize, before: usize) {
         let value = self.first.saturating_add(MOST_BEFORE);
         if let Some(place) = self.members.as_mut_slice().get_mut(value) {
@@ -111,7 +111,7 @@ impl Probe {
         }
     }
 
-    /// Returns the encoding of a value of the type at a node after so many bits of an octet: octets,
+    /// Returns the encoding of a value of the type at a node after `before` bits of an octet: octets,
     /// and the index of the bit after the value. `None` if the parts are no value of the type.
     pub(crate) fn encode_after(
         &mut self,

@@ -116,7 +116,7 @@ module _ (E : ℕ → ByHeader FaultKind Identifier) (context : Context) (node :
   component None first F = no_member node
   component (Some m) first F = component_by m.presence first m.node (value_by m.presence (element m.node (E m.node))) F
 
-  -- so many components, which are members from an index on
+  -- `count` components, which are members from an index on
   abbrev pub components : {X : Type 0} → ℕ → ℕ → ToldContents FaultKind X → ToldContents FaultKind X
   components zero from F = F
   components (suc count) from F =
@@ -144,7 +144,7 @@ module _ (E : ℕ → ByHeader FaultKind Identifier) (context : Context) (node :
   additions (suc count) from F =
       addition (slice_get context.members from) (slice_get context.firsts from) (additions count (from + 1) F)
 
-  -- elements that the schema does not know, after so many known additions
+  -- elements that the schema does not know, after `count` known additions
   abbrev pub unknown_additions : ℕ → ToldContents FaultKind ℕ
   unknown_additions count = renamed (λ n. count + n) node (to_end Extra node (λ before. element node (any_value Unknown node)))
 
@@ -178,7 +178,7 @@ module _ (E : ℕ → ByHeader FaultKind Identifier) (context : Context) (node :
   alternative (Some m) None i B = no_type node
   alternative (Some m) (Some first) i B = either (HasTag context.tags first) node (Chosen i) (E m.node) B
 
-  -- so many alternatives, of which the first has an index, and is a member
+  -- `count` alternatives, of which the first has an index, and is a member
   abbrev pub alternatives : ℕ → ℕ → ℕ → ByHeader FaultKind Identifier → ByHeader FaultKind Identifier
   alternatives zero i from B = B
   alternatives (suc count) i from B =

@@ -44,7 +44,7 @@ identifier node = then (number 8 Short node) identifier_of (λ first. number_aft
 
 -- ---- lengths: definite, of minimal length (8.1.3, 10.1)
 
--- so many octets hold a length, and no fewer do; one alone would hold it below 128
+-- `octets` octets hold a length, and no fewer do; one alone would hold it below 128
 abbrev pub IsLongLength : ℕ → ℕ → Type 0
 IsLongLength octets n = (128 ≤ n) × (2 ^ (8 * (octets - 1)) ≤ n)
 

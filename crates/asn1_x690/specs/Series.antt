@@ -9,7 +9,7 @@ IsSeries P More Last (x ∷ xs) list =
     (Last x × P x list × (xs ≡ []))
     ⊎ (More x × ((front : List Bool) × (rest : List Bool) × P x front × IsSeries P More Last xs rest × (list ≡ front ++ rest)))
 
--- the first fault is that of the value after so many
+-- the first fault is that of the value after `n` others
 abbrev pub SeriesFault : {K X : Type 0} → Encoding K X → (X → Type 0) → ℕ → List Bool → Fault K → Type 0
 SeriesFault A More zero list e = A.fault list e
 SeriesFault A More (suc n) list e = Then A.encodes (λ x rest. More x × SeriesFault A More n rest e) list

@@ -1,4 +1,4 @@
-//! Tags, and what the rules of X.690 ask of a schema beside its nodes.
+//! Tags, and what the rules of X.690 require of a schema besides its nodes.
 
 use asn1_schema::Rows;
 
@@ -44,7 +44,7 @@ pub enum CharacterSize {
     Four,
 }
 
-/// What the rules need of a type beside its node.
+/// What the rules need of a type besides its node.
 #[derive(Clone, Copy, Debug, PartialEq, Eq)]
 pub struct TypeTags {
     /// The tags of its elements, from the outermost to the innermost, in the table of tags. Each
@@ -72,7 +72,7 @@ pub struct FirstTags {
     pub group: Option<Rows>,
 }
 
-/// The tables that DER needs beside those of a schema: tags, and numbers of ENUMERATED.
+/// The tables that DER needs besides those of a schema: tags, and numbers of ENUMERATED.
 #[derive(Clone, Copy, Debug)]
 pub struct TagTables<'s> {
     /// Of each node: its tags.

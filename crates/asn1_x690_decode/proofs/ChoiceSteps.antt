@@ -68,7 +68,7 @@ module _ (c : Context) (depth node : ℕ) (id : Identifier) where
         let e : from + (i + 1) ≡ from + 1 + i = omega arith in
         subst (λ (n : ℕ). IsOther c id n) e (o (i + 1) (omega (arith, lt)))
 
-    -- so many alternatives are others
+    -- `k` alternatives are others
     pub passed : (count i from k : ℕ) → k ≤ count → AreOthers c id from k
         → Implies (Alternatives B count i from) (Alternatives B (count - k) (i + k) (from + k))
     passed count i from zero le o =
@@ -90,7 +90,7 @@ module _ (c : Context) (depth node : ℕ) (id : Identifier) where
         (subst (λ (n : ℕ). Implies (Alternatives B count (i + 1) (from + 1)) (Alternatives B (count - k) (i + 1 + k) n)) d
         (passed count (i + 1) (from + 1) k few (others_after from k o)))))
 
-    -- the alternative is found after so many
+    -- the alternative is found after `k` others
     pub chosen : (count i from k inner : ℕ) → k < count → AreOthers c id from k → IsIt c id (from + k) inner
         → Implies (Alternatives B count i from) (mapped (λ (ts : Parts). Chosen (i + k) ∷ ts) ((E inner).contents id))
     chosen count i from k inner lt o is =

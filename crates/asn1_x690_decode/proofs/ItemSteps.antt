@@ -75,7 +75,7 @@ module _ (extra : FaultKind) (node : ℕ) (A : List Bool → TypeEncoding FaultK
   no_items (suc k) before [] e = inl (refl, (refl, refl))
   no_items most before (b ∷ l) e = absurd (omega (arith, e))
 
-  -- so many items were found, the last of these bits, and others are left
+  -- `count` items were found, the last of these bits, and others are left
   pub record IsUnderway (ranges : List Range) (list : List Bool) (old now : State) (was is : List Part) (before : List Bool) (count : ℕ) : Type 0 where
     pub most : ℕ
     pub parts : Parts

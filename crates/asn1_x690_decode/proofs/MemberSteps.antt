@@ -28,7 +28,7 @@ use Rattle.asn1_x690_decode.proofs.StateSteps.{grown_over, none_grown}
 -- ---- steps one after another
 
 module _ (S : ℕ → List Bool → Parts → List Bool → Type 0) (W : ℕ → List Bool → Fault FaultKind → Type 0) (count from : ℕ) where
-  -- so many of them were made
+  -- `i` of them were made
   pub record IsUnderway (ranges : List Range) (list : List Bool) (old now : State) (was is : List Part) (i : ℕ) : Type 0 where
     pub parts : Parts
     pub done : (ys : Parts) (others : List Bool) → AreSteps S (count - i) (from + i) (rest list now) ys others

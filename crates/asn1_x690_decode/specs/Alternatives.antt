@@ -26,11 +26,11 @@ module _ (c : Context) (id : Identifier) where
     pub is_first : slice_get c.tags.members.now i ≡ Some first
     pub has_not : ¬ (HasTag c.tags.tags.now first id)
 
-  -- so many from an index on are others
+  -- `count` from an index on are others
   abbrev pub AreOthers : ℕ → ℕ → Type 0
   AreOthers from count = (i : ℕ) → i < count → IsOther (from + i)
 
-  -- among so many from an index on
+  -- among `count` from an index on
   abbrev pub IsAlternative : ℕ → ℕ → Alternative → Type 0
   IsAlternative from count (Found index node) = (index < count) × AreOthers from index × IsIt (from + index) node
   IsAlternative from count Missing =

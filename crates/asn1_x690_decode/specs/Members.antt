@@ -14,7 +14,7 @@ use Rattle.asn1_x690.specs.Der.{BeginsWith, value_by}
 use Rattle.asn1_x690_decode.specs.declared.context.Context.{Context}
 use Rattle.asn1_x690_decode.specs.Tables.{tables_of, types, elements}
 
--- a step says which parts come of the bits that are left, and which bits are left then; there are so many, from an index on
+-- a step says which parts come of the bits that are left, and which bits are left then; there are `count`, from an index on
 abbrev pub AreSteps : (ℕ → List Bool → Parts → List Bool → Type 0) → ℕ → ℕ → List Bool → Parts → List Bool → Type 0
 AreSteps S zero from list parts others = (parts ≡ []) × (others ≡ list)
 AreSteps S (suc count) from list parts others =

@@ -52,7 +52,7 @@ pub(crate) fn decode_additions(
     }
 }
 
-/// Decodes the addition so many after an index of the table of members. It may be absent.
+/// Decodes the addition at `from + index` of the table of members. It may be absent.
 #[inline(always)]
 #[cycle(decoding)]
 pub(crate) fn decode_addition(
@@ -90,8 +90,8 @@ pub(crate) fn decode_addition(
     }
 }
 
-/// Decodes the components of an addition group, which no element is around, after the part that tells
-/// how many there are.
+/// Decodes the components of an addition group, which no element is around, after the part with
+/// their number.
 #[inline(never)]
 #[cycle(decoding)]
 fn decode_group(

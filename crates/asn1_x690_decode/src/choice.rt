@@ -130,7 +130,7 @@ pub(crate) fn decode_choice(
     }
 }
 
-/// Decodes contents octets as an alternative of the additions, which follow so many of the root. An
+/// Decodes contents octets as an alternative of the additions, which follow `count` of the root. An
 /// element that is none is kept.
 #[cycle(decoding)]
 fn decode_added(

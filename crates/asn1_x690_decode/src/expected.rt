@@ -87,7 +87,7 @@ impl Expected<'_> {
         count
     }
 
-    /// Returns whether the type asks for the tag of an identifier, in either form.
+    /// Returns whether the type expects the tag of an identifier, in either form.
     pub(crate) fn has_tag(&self, found: &FoundIdentifier) -> bool {
         let node = self.inner_node();
         for tag in self.tags_of(node) {

@@ -36,7 +36,7 @@ pub(crate) fn keep(part: Part, state: &mut State, parts: &mut [Part]) -> bool
     true
 }
 
-/// Returns so many numbers of the table from an index on, those that it has.
+/// Returns `count` numbers of the table from an index on, those that it has.
 fn numbers_in(numbers: &[i128], from: usize, count: usize) -> &[i128]
     requires { count < 2 ^ 34 }
     ensures { result.now ≡ slice_range numbers.now from (from + count) }

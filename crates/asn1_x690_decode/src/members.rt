@@ -6,7 +6,7 @@ ghost use Rattle.asn1_x690_decode.specs.Members.{is_required as is_required_by};
 use asn1_schema::{Member, Presence};
 use asn1_x690::FirstTags;
 
-/// Returns the member so many after an index.
+/// Returns the member at `from + index`.
 #[inline(always)]
 pub(crate) fn member_at(members: &[Member], from: usize, index: usize) -> Option<&Member>
     ensures { MatchOption result (None ≡ slice_get members.now (from + index)) (λ m. Some m.now ≡ slice_get members.now (from + index)) }
@@ -18,7 +18,7 @@ pub(crate) fn member_at(members: &[Member], from: usize, index: usize) -> Option
     }
 }
 
-/// Returns the first tags of the member so many after an index.
+/// Returns the first tags of the member at `from + index`.
 #[inline(always)]
 pub(crate) fn first_at(members: &[FirstTags], from: usize, index: usize) -> Option<&FirstTags>
     ensures { MatchOption result (None ≡ slice_get members.now (from + index)) (λ f. Some f.now ≡ slice_get members.now (from + index)) }

@@ -102,7 +102,7 @@ pub(crate) fn decode_members(
     true
 }
 
-/// Decodes the component or the addition so many after an index of the table of members.
+/// Decodes the component or the addition at `from + index` of the table of members.
 #[inline(always)]
 #[cycle(decoding)]
 fn decode_member(
@@ -130,7 +130,7 @@ fn decode_member(
     }
 }
 
-/// Decodes the component so many after an index of the table of members.
+/// Decodes the component at `from + index` of the table of members.
 #[inline(always)]
 #[cycle(decoding)]
 fn decode_component(

@@ -27,7 +27,7 @@ pub(crate) struct Type<'s> {
     pub node: usize,
     /// What it is.
     pub is: &'s Node,
-    /// What the rules ask of it beside.
+    /// What else the rules require of it.
     pub tags: &'s TypeTags,
 }
 

@@ -1,15 +1,17 @@
 -- What follows of contents that were encoded after their identifier.
 use Rattle.std.proofs.Common.{◌≡◌, ℕ, suc, ◌+◌, ◌-◌, ◌*◌, ◌/◌, ◌%◌, ◌^◌, ◌<◌, ◌≤◌, List, [], ◌∷◌, ◌++◌, Bool, length, take, drop, refl, sym, ap, ◌∙◌, subst, inl, inr, arith}
-use Rattle.std.specs.Prelude.{◌⊎◌}
+use Rattle.std.specs.Prelude.{◌⊎◌, Option, Some, None}
 use Rattle.std.proofs.Math.Seq.{drop-append_seam}
 use Rattle.std.proofs.lemmas.List.{length-append, length-take-le, drop-take}
 use Rattle.asn1_bits.specs.Bits.{bits}
 use Rattle.asn1_bits.specs.Laws.DigitLaws.{length-bits}
 use Rattle.asn1_x690.specs.declared.tables.Identifier.{Identifier}
 use Rattle.asn1_x690.specs.Elements.{identifier}
+use Rattle.asn1_x690.specs.TypeContents.{TypeContents}
+use Rattle.asn1_x690.specs.declared.fault.FaultKind.{FaultKind}
 use Rattle.asn1_x690_fields.specs.declared.identifier.FoundIdentifier.{FoundIdentifier}
 use Rattle.asn1_x690_fields.specs.Outcomes.{IsIdentifier}
-use Rattle.asn1_x690_writers.specs.Written.{IsWritten, HaveBits, IsLengthBefore}
+use Rattle.asn1_x690_writers.specs.Written.{IsWritten, AreNotCut, HaveBits, IsLengthBefore}
 use Rattle.asn1_x691_writers.specs.declared.state.Writer.{Writer}
 use Rattle.asn1_x691_writers.specs.declared.state.Rejection.TheVariants as rejection
 use Rattle.asn1_x691_writers.specs.GrownSteps.{grown_both, index_least}
@@ -17,7 +19,7 @@ use Rattle.asn1_x691_writers.specs.TailSteps.{tail_grown}
 use Rattle.asn1_x691_writers.specs.Written.{IsIndex, Holds, IsGrown}
 use Rattle.asn1_x690_encode.specs.declared.context.Context.{Context}
 use Rattle.asn1_x690_encode.specs.declared.inner.Inner.{Inner}
-use Rattle.asn1_x690_encode.specs.Encoding.{tape, inner_in, enclosed_in, IsFilled, IsElementOf, IsInnerOf, IsLong, IsStopped}
+use Rattle.asn1_x690_encode.specs.Encoding.{tape, inner_in, enclosed_in, BodyOutcome, IsBody, IsFilled, IsElementOf, IsInnerOf, IsLong, IsStopped}
 
 -- ---- from the first octet on
 
@@ -39,33 +41,36 @@ grown_first was now new more index have = record {
       subst (λ (k : ℕ). IsIndex new k) e index;
 }
 
--- the bits after the first octet
-pub have_after : (was now : List ℕ) (new : ℕ) (contents : List Bool) → IsGrown was 8 now new contents → length now ≡ length was
-    → HaveBits now 8 contents
-have_after was now new contents g same le =
-    let front = take 8 (bits was) in
-    let size : length front ≡ 8 = length-take-le 8 (bits was) (omega (arith, le, same, length-bits was)) in
-    let held : Holds was 8 front =
+-- the bits from an index on
+have_from : (was now : List ℕ) (at new : ℕ) (contents : List Bool) → IsGrown was at now new contents → length now ≡ length was
+    → HaveBits now at contents
+have_from was now at new contents g same le =
+    let front = take at (bits was) in
+    let size : length front ≡ at = length-take-le at (bits was) (omega (arith, le, same, length-bits was)) in
+    let held : Holds was at front =
     record { index = inl (sym size); kept = λ q. ap (λ (n : ℕ). take n (bits was)) size } in
     let n = length contents in
-    let e : length (front ++ contents) ≡ 8 + n = omega (arith, size, length-append front contents) in
+    let e : length (front ++ contents) ≡ at + n = omega (arith, size, length-append front contents) in
     let kept = (g.held front held).kept (omega (arith, e, le)) in
-    sym (drop-take 8 n (bits now))
-    ∙ ap (λ (k : ℕ). drop 8 (take k (bits now))) (sym e)
-    ∙ ap (λ (l : List Bool). drop 8 l) kept
+    sym (drop-take at n (bits now))
+    ∙ ap (λ (k : ℕ). drop at (take k (bits now))) (sym e)
+    ∙ ap (λ (l : List Bool). drop at l) kept
     ∙ ap (λ (k : ℕ). drop k (front ++ contents)) (sym size)
     ∙ drop-append_seam front contents
 
-module _ (c : Context) (depth node : ℕ) (inner : Inner) (old : Writer) (tail now : List ℕ) (new : Writer)
-    (e : IsFilled c (inner_in c depth node inner).contents.fills tail (record old { at = 8 }) now new) where
-  index : IsIndex new.at (8 + length e.list)
-  index = e.grown.index 8 (inl refl)
+-- ---- contents after the octets that were reserved for their length
 
-  -- the contents are too long
-  pub enclosed_long : (last : Writer) → 2 ^ 64 - 128 ≤ new.at → last.next ≡ old.next → last.node ≡ node → last.reason ≡ rejection.Unsupported
-      → IsInnerOf c node inner → (id : Identifier) → IsStopped c (enclosed_in c depth node id inner).misfit old last
-  enclosed_long last many next same reason type id =
-      let least = index_least new.at (8 + length e.list) index in
+module _ (c : Context) (depth node : ℕ) (inner : Inner) (old : Writer) (was now : List ℕ) (new : Writer) (reserved count : ℕ)
+    (e : IsFilled c (inner_in c depth node inner).contents.fills was (record old { at = 8 * reserved }) now new) (most : reserved ≤ 9)
+    (bits_of : count ≡ new.at - 8 * reserved) where
+  index : IsIndex new.at (8 * reserved + length e.list)
+  index = e.grown.index (8 * reserved) (inl refl)
+
+  -- they are too long
+  pub body_long : (last : Writer) → 2 ^ 64 - 136 ≤ count → last.next ≡ old.next → last.node ≡ node → last.reason ≡ rejection.Unsupported
+      → IsInnerOf c node inner → IsStopped c (inner_in c depth node inner).misfit old last
+  body_long last many next same reason type =
+      let least = index_least new.at (8 * reserved + length e.list) index in
       inr (inl (
         reason,
         inr (subst (λ (n : ℕ). IsLong c n last.next) (sym same) (record {
@@ -77,71 +82,111 @@ module _ (c : Context) (depth node : ℕ) (inner : Inner) (old : Writer) (tail n
           rest = tape c new.next;
           fills = e.fills;
           are = ap (λ (i : ℕ). tape c i) next ∙ e.taken;
-          many = omega (arith, least, many);
+          many = omega (arith, least, many, bits_of);
         })),
       ))
 
-  pub exact : new.at < 2 ^ 64 - 128 → new.at ≡ 8 + length e.list
-  exact few = of index
-    where
-      of : IsIndex new.at (8 + length e.list) → new.at ≡ 8 + length e.list
-      of (inl i) = i
-      of (inr p) = absurd (omega (arith, p.0, few))
+  module _ (few : count < 2 ^ 64 - 136) where
+    pub counted : length e.list ≡ count
+    counted = of index
+      where
+        of : IsIndex new.at (8 * reserved + length e.list) → length e.list ≡ count
+        of (inl i) = omega (arith, i, bits_of)
+        of (inr p) = absurd (omega (arith, p.0, few, most, bits_of))
 
-  module _ (id : Identifier) (found : FoundIdentifier) (was front last : List ℕ) (start width count at : ℕ) (shown : IsIdentifier found id)
-      (ids : IsWritten identifier id was old.at (front ++ tail) start) (size : 8 * length (front ++ tail) < 2 ^ 64)
-      (whole : start % 8 ≡ 0) (inside : (length front ≡ start / 8) ⊎ (length (front ++ tail) < start / 8))
-      (few : new.at < 2 ^ 64 - 128) (bits_of : count ≡ new.at - 8) (octets : width % 8 ≡ 0) (same : length last ≡ length tail)
-      (before : IsLengthBefore e.list (count / 8) last width)
-      (on : (n : ℕ) → IsIndex start n → IsIndex at (n + (width + count))) where
-    abbrev more : List Bool
-    more = before.list ++ e.list
+    octets_of : length e.list ≡ 8 * (count / 8)
+    octets_of = omega (arith, counted, e.whole)
 
-    counted : length e.list ≡ count
-    counted = let i = exact few in omega (arith, i, bits_of)
-
-    octet_count : length e.list ≡ 8 * (count / 8)
-    octet_count = omega (arith, counted, e.whole)
-
-    more_size : length more ≡ width + count
-    more_size = omega (arith, counted, before.size, length-append before.list e.list)
-
-    grown : IsGrown (front ++ tail) start (front ++ last) at more
-    grown =
-        tail_grown front tail last (start / 8) 0 start (length more) at more size same (omega (arith, whole))
-        (grown_first tail last (length more) more (inl refl) before.have)
-        (λ n h. subst (λ (k : ℕ). IsIndex at (n + k)) (sym more_size) (on n h)) inside
-
-    pub enclosed_done : IsFilled c (IsElementOf (enclosed_in c depth node id inner) found) was old (front ++ last) (record new { at = at })
-    enclosed_done = record {
+    -- their length was written before them
+    pub body_done : (last : List ℕ) (width : ℕ) → length now ≡ length was → width % 8 ≡ 0
+        → ((contents : List Bool) → length contents ≡ 8 * (count / 8) → HaveBits now (8 * reserved) contents → AreNotCut now reserved (count / 8) width
+        → IsLengthBefore contents (count / 8) last width)
+        → (width / 8 + count / 8 ≤ length now → reserved + count / 8 ≤ length now)
+        → IsBody c (inner_in c depth node inner) old last new (width + count)
+    body_done last width same octets put whole = record {
       parts = e.parts;
-      list = ids.list ++ more;
-      fills = record {
-        id = id;
-        shown = shown;
-        contents = e.list;
-        fills = inl (refl, e.fills);
-        encodes = λ n. record {
-          value = id;
-          after = e.list;
-          front = ids.list;
-          rest = more;
-          first = ids.encodes n;
-          second = record {
-            value = count / 8;
-            after = e.list;
-            front = before.list;
-            rest = e.list;
-            first = before.encodes n;
-            second = (octet_count, refl);
-            is = refl;
-            parts = refl;
-          };
+      contents = e.list;
+      width = width;
+      fills = e.fills;
+      whole = e.whole;
+      octets = octets;
+      before = subst (λ (n : ℕ). IsLengthBefore e.list n last width) (omega (arith, octets_of))
+          (put e.list octets_of (have_from was now (8 * reserved) new.at e.list e.grown same) (λ le. whole (omega (arith, le, octets))));
+      are = omega (arith, counted);
+      taken = e.taken;
+    }
+
+-- a call that begins with the same part
+pub body_here : (c : Context) (F : TypeContents FaultKind) (old begun : Writer) (now : List ℕ) (new : Writer) (r : Option ℕ)
+    → begun.next ≡ old.next → BodyOutcome c F begun now new r → BodyOutcome c F old now new r
+body_here c F old begun now new (Some size) e b = record {
+  parts = b.parts;
+  contents = b.contents;
+  width = b.width;
+  fills = b.fills;
+  whole = b.whole;
+  octets = b.octets;
+  before = b.before;
+  are = b.are;
+  taken = ap (λ (n : ℕ). tape c n) (sym e) ∙ b.taken;
+}
+body_here c F old begun now new None e (inl m) = inl (record {
+  kind = m.kind;
+  reason = m.reason;
+  first = subst (λ (n : ℕ). F.misfit (tape c n) (record { node = new.node; left = length (tape c new.next); kind = m.kind })) e m.first;
+})
+body_here c F old begun now new None e (inr u) = inr u
+
+-- ---- an element
+
+module _ (c : Context) (depth node : ℕ) (inner : Inner) (old : Writer) (tail last : List ℕ) (new : Writer) (size : ℕ)
+    (e : IsBody c (inner_in c depth node inner) old last new size) (id : Identifier) (found : FoundIdentifier) (was front : List ℕ)
+    (start at : ℕ) (shown : IsIdentifier found id) (ids : IsWritten identifier id was old.at (front ++ tail) start)
+    (few : 8 * length (front ++ tail) < 2 ^ 64) (whole : start % 8 ≡ 0)
+    (inside : (length front ≡ start / 8) ⊎ (length (front ++ tail) < start / 8)) (same : length last ≡ length tail)
+    (on : (n : ℕ) → IsIndex start n → IsIndex at (n + size)) where
+  abbrev more : List Bool
+  more = e.before.list ++ e.contents
+
+  more_size : length more ≡ size
+  more_size = omega (arith, e.are, e.before.size, length-append e.before.list e.contents)
+
+  grown : IsGrown (front ++ tail) start (front ++ last) at more
+  grown =
+      tail_grown front tail last (start / 8) 0 start (length more) at more few same (omega (arith, whole))
+      (grown_first tail last (length more) more (inl refl) e.before.have)
+      (λ n h. subst (λ (k : ℕ). IsIndex at (n + k)) (sym more_size) (on n h)) inside
+
+  pub enclosed_done : IsFilled c (IsElementOf (enclosed_in c depth node id inner) found) was old (front ++ last) (record new { at = at })
+  enclosed_done = record {
+    parts = e.parts;
+    list = ids.list ++ more;
+    fills = record {
+      id = id;
+      shown = shown;
+      contents = e.contents;
+      fills = inl (refl, e.fills);
+      encodes = λ n. record {
+        value = id;
+        after = e.contents;
+        front = ids.list;
+        rest = more;
+        first = ids.encodes n;
+        second = record {
+          value = length e.contents / 8;
+          after = e.contents;
+          front = e.before.list;
+          rest = e.contents;
+          first = e.before.encodes n;
+          second = (omega (arith, e.whole), refl);
           is = refl;
           parts = refl;
         };
+        is = refl;
+        parts = refl;
       };
-      whole = omega (arith, length-append ids.list more, more_size, ids.whole, octets, counted, e.whole);
-      grown = grown_both was (front ++ tail) (front ++ last) old.at start at ids.list more ids.grown grown;
-      taken = e.taken;
-    }
+    };
+    whole = omega (arith, length-append ids.list more, more_size, ids.whole, e.octets, e.are, e.whole);
+    grown = grown_both was (front ++ tail) (front ++ last) old.at start at ids.list more ids.grown grown;
+    taken = e.taken;
+  }

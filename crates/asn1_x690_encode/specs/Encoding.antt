@@ -1,8 +1,9 @@
 -- What an encoder did: it wrote an encoding of the next parts, or it names the first misfit.
-use Rattle.std.specs.Prelude.{◌≡◌, ℕ, ◌+◌, ◌%◌, ◌^◌, ◌⊎◌, ◌<◌, ◌≤◌, ⊤, Bool, true, false, List, [], ◌++◌, length, drop, map, Option, Some, None, slice_get}
+use Rattle.std.specs.Prelude.{◌≡◌, ℕ, ◌+◌, ◌/◌, ◌%◌, ◌^◌, ◌⊎◌, ◌<◌, ◌≤◌, ⊤, Bool, true, false, List, [], ◌++◌, length, drop, map, Option, Some, None, slice_get}
 use Rattle.asn1_schema.specs.declared.misfit.MisfitKind.{MisfitKind}
 use Rattle.asn1_schema.specs.declared.misfit.MisfitKind.TheVariants.{OtherPart}
 use Rattle.asn1_schema.specs.declared.part.Part.{Part}
+use Rattle.asn1_schema.specs.declared.tables.Length.{Length}
 use Rattle.asn1_schema.specs.declared.tables.Node.{Node}
 use Rattle.asn1_schema.specs.declared.tables.Node.TheVariants as type
 use Rattle.asn1_schema.specs.Encodings.{Starts}
@@ -21,6 +22,7 @@ use Rattle.asn1_x690.specs.TypeContents.{TypeContents, ToldContents, ByHeader, F
 use Rattle.asn1_x690_fields.specs.declared.identifier.FoundIdentifier.{FoundIdentifier}
 use Rattle.asn1_x690_fields.specs.Outcomes.{IsIdentifier}
 use Rattle.asn1_x690_writers.specs.Leaf.{leaf_in, IsLeftOut}
+use Rattle.asn1_x690_writers.specs.Written.{IsLengthBefore}
 use Rattle.asn1_x691_fields.specs.Defaults.{default_in}
 use Rattle.asn1_x691_writers.specs.declared.state.Writer.{Writer}
 use Rattle.asn1_x691_writers.specs.declared.state.Rejection.TheVariants as rejection
@@ -53,9 +55,26 @@ tables_of c = record {
   defaults = λ value. default_in c.defaults false value 0;
 }
 
+-- the items of a SET OF; where they need no order, those of a SEQUENCE OF
+abbrev pub items_by : Bool → Length → Bool → ℕ → Node
+items_by false size is_extensible item = type.SequenceOf size is_extensible item
+items_by true size is_extensible item = type.SetOf size is_extensible item
+
+abbrev pub node_by : Bool → Node → Node
+node_by ordered (type.SetOf size is_extensible item) = items_by ordered size is_extensible item
+node_by ordered n = n
+
+abbrev pub nodes_by : Bool → List Node → List Node
+nodes_by false nodes = map (node_by false) nodes
+nodes_by true nodes = nodes
+
+-- the nodes of a context
+abbrev pub nodes_of : Context → List Node
+nodes_of c = nodes_by c.is_ordered c.tables.nodes.now
+
 -- the types of a context, whose values are nested less deep than the depth
 abbrev pub types : Context → ℕ → ℕ → ByHeader FaultKind Identifier
-types c depth node = der.type_at c.tables.nodes.now (tables_of c) depth node
+types c depth node = der.type_at (nodes_of c) (tables_of c) depth node
 
 -- the tables have this type at a node
 abbrev pub HasType : Context → ℕ → Node → TypeTags → Type 0
@@ -68,7 +87,7 @@ contents_in c depth node t (type.Sequence root is_extensible known) =
 contents_in c depth node t (type.SequenceOf size is_extensible item) =
     der.sequence_of (types c depth) (tables_of c) node false is_extensible size item
 contents_in c depth node t (type.SetOf size is_extensible item) =
-    der.sequence_of (types c depth) (tables_of c) node true is_extensible size item
+    der.sequence_of (types c depth) (tables_of c) node c.is_ordered is_extensible size item
 contents_in c depth node t n = leaf_in c.tables.ranges.now c.tags.numbers.now node t n
 
 -- the elements that are around no other tag of a type
@@ -111,7 +130,7 @@ IsInnerOf c node (Around n t tags) = HasType c node n.now t.now
 abbrev pub enclosed_in : Context → ℕ → ℕ → Identifier → Inner → ByHeader FaultKind Identifier
 enclosed_in c depth node id inner = only_header id OtherTag node (inner_in c depth node inner)
 
--- unknown additions, after so many that the schema knows
+-- unknown additions, after `known` that the schema knows
 abbrev pub unknown_in : ℕ → ℕ → ToldContents FaultKind ℕ
 unknown_in node known = renamed (λ n. known + n) node (to_end Extra node (λ before. der.element node (der.any_value Unknown node)))
 
@@ -139,7 +158,7 @@ after_root c depth node ending.End = nothing_more Extra node
 after_root c depth node (ending.Extension known is_extended) = extension_in c depth node known
 after_root c depth node (ending.Additions left) = added_in c depth node left
 
--- so many components, and what follows them
+-- `count` components, and what follows them
 abbrev pub components_in : Context → ℕ → ℕ → ℕ → ℕ → (tail : Tail) → ToldContents FaultKind (told_by tail)
 components_in c depth node count from tail = der.components (types c depth) (tables_of c) node count from (after_root c depth node tail)
 
@@ -161,7 +180,7 @@ abbrev pub in_order_in : Context → ℕ → ℕ → ℕ → List Bool → TypeE
 in_order_in c depth node item before =
     der.in_order (types c depth) (tables_of c) node true (der.element item (types c depth item)) before
 
--- so many items to the end, and alternatives from an index on
+-- items to the end, with their number; and alternatives from an index on
 abbrev pub items_in : Context → ℕ → ℕ → Bool → ℕ → ToldContents FaultKind ℕ
 items_in c depth node is_set item =
     to_end Extra node (der.in_order (types c depth) (tables_of c) node is_set (der.element item (types c depth item)))
@@ -233,6 +252,19 @@ pub record IsFirstMisfit (c : Context) (W : Parts → Misfit → Type 0) (old ne
   pub kind : MisfitKind
   pub reason : new.reason ≡ rejection.Misfit kind
   pub first : W (tape c old.next) (record { node = new.node; left = length (tape c new.next); kind = kind })
+
+-- The octets are a length and contents that F says the next parts have, `size` bits together. If there are too few octets, nothing is
+-- said of them.
+pub record IsBody (c : Context) (F : TypeContents FaultKind) (old : Writer) (now : List ℕ) (new : Writer) (size : ℕ) : Type 0 where
+  pub parts : Parts
+  pub contents : List Bool
+  pub width : ℕ
+  pub fills : F.contents.fills parts contents
+  pub whole : length contents % 8 ≡ 0
+  pub octets : width % 8 ≡ 0
+  pub before : IsLengthBefore contents (length contents / 8) now width
+  pub are : size ≡ width + length contents
+  pub taken : tape c old.next ≡ parts ++ tape c new.next
 
 -- ---- what is not encoded yet
 
@@ -314,6 +346,11 @@ ElementOutcome c B was old now new None = IsStopped c B.misfit old new
 abbrev pub ValueOutcome : Context → TypeEncoding FaultKind → List ℕ → Writer → List ℕ → Writer → Option FoundIdentifier → Type 0
 ValueOutcome c A was old now new (Some found) = IsFilled c (BeginFilled A.encoding.encodes (Some found)) was old now new
 ValueOutcome c A was old now new None = IsStopped c A.misfit old new
+
+-- the same of a length and contents
+abbrev pub BodyOutcome : Context → TypeContents FaultKind → Writer → List ℕ → Writer → Option ℕ → Type 0
+BodyOutcome c F old now new (Some size) = IsBody c F old now new size
+BodyOutcome c F old now new None = IsStopped c F.misfit old new
 
 abbrev pub ContentsOutcome : Context → TypeContents FaultKind → List ℕ → Writer → List ℕ → Writer → Bool → Type 0
 ContentsOutcome c F was old now new r = Outcome c F.contents.fills F.misfit was old now new r

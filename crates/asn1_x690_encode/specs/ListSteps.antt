@@ -32,7 +32,7 @@ module _ (A : List Bool → TypeEncoding FaultKind) where
   abbrev pub Several : List Bool → ℕ → ℕ → TypeEncoding FaultKind
   Several before n at = several_by_bits (λ k i. A k) before n at
 
-  -- so many values fill contents to their end
+  -- `n` values fill contents to their end
   pub fill_end : (node : ℕ) → ((before : List Bool) → TakesBits (A before)) → (n most at : ℕ) (before : List Bool) (xs : Parts) (l : List Bool)
       → length l ≤ most → (Several before n at).encoding.encodes xs l
       → (items {Y = ℕ × Parts} Extra node (λ k. (A k).encoding) (0, []) (λ ts w. (suc w.0, ts ++ w.1)) before most).fills (n, xs) l
@@ -60,7 +60,7 @@ module _ (A : List Bool → TypeEncoding FaultKind) where
         },
       )
 
-  -- so many of the values are left, after the bits of one
+  -- `left` of the values are left, after the bits of one
   pub record AreItems (c : Context) (n left : ℕ) (was : List ℕ) (old : Writer) (now : List ℕ) (new : Writer) : Type 0 where
     pub before : List Bool
     pub at : ℕ

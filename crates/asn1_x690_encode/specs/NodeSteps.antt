@@ -1,6 +1,8 @@
 -- What follows of the tables of a schema.
-use Rattle.std.proofs.Common.{◌≡◌, ℕ, zero, suc, ◌+◌, ◌-◌, ◌<◌, List, [], ◌∷◌, Bool, true, false, refl, sym, subst, Some, Option, None, arith}
-use Rattle.std.specs.Prelude.{slice_get}
+use Rattle.std.proofs.Common.{◌≡◌, ℕ, zero, suc, ◌+◌, ◌-◌, ◌<◌, List, [], ◌∷◌, Bool, true, false, refl, sym, ◌∙◌, ap, subst, Some, Option, None, arith}
+use Rattle.std.specs.Prelude.{option_map, slice_get}
+use Rattle.std.proofs.lemmas.Option.{slice_get-map}
+use Rattle.asn1_schema.specs.declared.tables.Length.{Length}
 use Rattle.asn1_schema.specs.declared.tables.Member.{Member}
 use Rattle.asn1_schema.specs.declared.tables.Node.{Node}
 use Rattle.asn1_schema.specs.declared.tables.Node.TheVariants as type
@@ -17,29 +19,53 @@ use Rattle.asn1_x690.specs.TypeContents.{ByHeader, ToldContents, TypeContents, o
 use Rattle.asn1_x690_encode.specs.declared.context.Context.{Context}
 use Rattle.asn1_schema.specs.declared.tables.Rows.{Rows}
 use Rattle.asn1_x690_encode.specs.declared.sequence.Tail.{Tail}
-use Rattle.asn1_x690_encode.specs.Encoding.{tables_of, types, headed_by, tagged_in, value_in, element_in, after_root, components_in, required_in, optional_in, told_by, alternatives_in, others_by}
-use Rattle.asn1_x690_encode.specs.Kinds.{is_headed, is_required}
+use Rattle.asn1_x690_encode.specs.Encoding.{items_by, node_by, nodes_by, tables_of, types, headed_by, tagged_in, value_in, element_in, after_root, components_in, required_in, optional_in, told_by, alternatives_in, others_by}
+use Rattle.asn1_x690_encode.specs.Kinds.{identifier_by, is_headed, is_required}
+
+node_same : (n : Node) → node_by true n ≡ n
+node_same (type.SetOf size is_extensible item) = refl
+node_same n = refl
+
+-- the nodes of a context have a node where its tables have one
+node_get : (b : Bool) (nodes : List Node) (i : ℕ) (n : Node) → slice_get nodes i ≡ Some n → slice_get (nodes_by b nodes) i ≡ Some (node_by b n)
+node_get false nodes i n e = slice_get-map (node_by false) nodes i ∙ ap (λ (o : Option Node). option_map (node_by false) o) e
+node_get true nodes i n e = e ∙ ap (λ (m : Node). Some m) (sym (node_same n))
+
+pub no_node : (b : Bool) (nodes : List Node) (i : ℕ) → slice_get nodes i ≡ None → slice_get (nodes_by b nodes) i ≡ None
+no_node false nodes i e = slice_get-map (node_by false) nodes i ∙ ap (λ (o : Option Node). option_map (node_by false) o) e
+no_node true nodes i e = e
 
 module _ (c : Context) (node : ℕ) (n : Node) (t : TypeTags) (P : ByHeader FaultKind Identifier → Type 0) where
   pub at_node : (depth : ℕ) → 0 < depth → slice_get c.tables.nodes.now node ≡ Some n → slice_get c.tags.types.now node ≡ Some t
-      → P (der.type_if (types c (depth - 1)) (tables_of c) node t.is_any t n) → P (types c depth node)
+      → P (der.type_if (types c (depth - 1)) (tables_of c) node t.is_any t (node_by c.is_ordered n)) → P (types c depth node)
   at_node zero some e f p = absurd (omega (arith, some))
   at_node (suc d) some e f p =
       let same : suc d - 1 ≡ d = omega arith in
       let E = types c d in
-      subst (λ (x : Option Node). P (der.type_of E (tables_of c) node x (slice_get c.tags.types.now node))) (sym e)
-      (subst (λ (x : Option TypeTags). P (der.type_of E (tables_of c) node (Some n) x)) (sym f)
-      (subst (λ (k : ℕ). P (der.type_if (types c k) (tables_of c) node t.is_any t n)) same p))
+      let m = node_by c.is_ordered n in
+      subst (λ (x : Option Node). P (der.type_of E (tables_of c) node x (slice_get c.tags.types.now node)))
+      (sym (node_get c.is_ordered c.tables.nodes.now node n e))
+      (subst (λ (x : Option TypeTags). P (der.type_of E (tables_of c) node (Some m) x)) (sym f)
+      (subst (λ (k : ℕ). P (der.type_if (types c k) (tables_of c) node t.is_any t m)) same p))
 
 pub by_headed : (c : Context) (d node : ℕ) (t : TypeTags) (b : Bool) (n : Node) (P : ByHeader FaultKind Identifier → Type 0) → is_headed b n ≡ true
-    → P (der.around node (der.rows_of c.tags.tags.now t.tags) (headed_by c d node b n)) → P (der.type_if (types c d) (tables_of c) node b t n)
+    → P (der.around node (der.rows_of c.tags.tags.now t.tags) (headed_by c d node b n))
+    → P (der.type_if (types c d) (tables_of c) node b t (node_by c.is_ordered n))
 by_headed c d node t true n P e p = p
 by_headed c d node t false (type.Choice root is_extensible known) P e p = p
 by_headed c d node t false (type.Open inner) P e p = p
 by_headed c d node t false n P e p = absurd cc
 
+by_items : (c : Context) (d node : ℕ) (t : TypeTags) (b : Bool) (size : Length) (is_extensible : Bool) (item : ℕ)
+    (P : ByHeader FaultKind Identifier → Type 0)
+    → P (der.tagged node (identifier_by true) (der.rows_of c.tags.tags.now t.tags) (der.sequence_of (types c d) (tables_of c) node b is_extensible size item))
+    → P (der.type_if (types c d) (tables_of c) node false t (items_by b size is_extensible item))
+by_items c d node t false size is_extensible item P p = p
+by_items c d node t true size is_extensible item P p = p
+
 pub by_tagged : (c : Context) (d node : ℕ) (t : TypeTags) (b : Bool) (n : Node) (P : ByHeader FaultKind Identifier → Type 0) → is_headed b n ≡ false
-    → P (tagged_in c d node t n (der.rows_of c.tags.tags.now t.tags)) → P (der.type_if (types c d) (tables_of c) node b t n)
+    → P (tagged_in c d node t n (der.rows_of c.tags.tags.now t.tags))
+    → P (der.type_if (types c d) (tables_of c) node b t (node_by c.is_ordered n))
 by_tagged c d node t true n P e p = absurd cc
 by_tagged c d node t false type.Null P e p = p
 by_tagged c d node t false type.Boolean P e p = p
@@ -58,7 +84,7 @@ by_tagged c d node t false (type.Time kind) P e p = p
 by_tagged c d node t false (type.Text size is_extensible alphabet whole) P e p = p
 by_tagged c d node t false (type.Sequence root is_extensible known) P e p = p
 by_tagged c d node t false (type.SequenceOf size is_extensible item) P e p = p
-by_tagged c d node t false (type.SetOf size is_extensible item) P e p = p
+by_tagged c d node t false (type.SetOf size is_extensible item) P e p = by_items c d node t c.is_ordered size is_extensible item P p
 by_tagged c d node t false (type.Choice root is_extensible known) P e p = absurd cc
 by_tagged c d node t false (type.Open inner) P e p = absurd cc
 

@@ -1,6 +1,13 @@
 -- What follows of a value that was compared with the default one.
-use Rattle.std.proofs.Common.{◌≡◌, ℕ, ◌+◌, ◌<◌, ◌≤◌, List, ◌++◌, Bool, true, false, length, refl, sym, ap, ◌∙◌, subst, inl, inr, arith, Some}
-use Rattle.std.proofs.lemmas.Bool.{cases_lt}
+use Rattle.std.proofs.Common.{◌≡◌, ℕ, ◌+◌, ◌*◌, ◌<◌, ◌≤◌, List, ◌++◌, Bool, true, false, length, refl, sym, ap, ◌∙◌, subst, inl, inr, arith, Option, Some}
+use Rattle.std.specs.Prelude.{nat_le, slice_get}
+use Rattle.std.proofs.lemmas.Bool.{cases_lt, leb-true}
+use Rattle.asn1_bits.specs.Bits.{bits}
+use Rattle.asn1_schema.specs.declared.part.Span.{Span}
+use Rattle.asn1_schema.specs.PiecesOfParts.{bits_of}
+use Rattle.asn1_x690_writers.specs.PutSteps.{span_length}
+use Rattle.asn1_x691_fields.specs.declared.defaults.Defaults.{Defaults}
+use Rattle.asn1_x691_fields.specs.Defaults.{bits_if, default_at, default_in}
 use Rattle.asn1_schema.specs.declared.misfit.MisfitKind.TheVariants.{DefaultValue}
 use Rattle.asn1_schema.specs.declared.tables.Presence.TheVariants as presence
 use Rattle.asn1_schema.specs.Pieces.{Parts}
@@ -13,8 +20,23 @@ use Rattle.asn1_x691_writers.specs.declared.state.Rejection.TheVariants as rejec
 use Rattle.asn1_x691_writers.specs.Written.{IsIndex}
 use Rattle.asn1_x690_encode.specs.declared.context.Context.{Context}
 use Rattle.asn1_x690_encode.specs.Compared.{IsIn, IsDefault, IsCompared}
-use Rattle.asn1_x690_encode.specs.Encoding.{tape, tables_of, element_in, value_in, IsFilled, BeginFilled, IsStopped, IsLeft, ValueOutcome}
+use Rattle.asn1_x690_encode.specs.Encoding.{nodes_of, tape, tables_of, element_in, value_in, IsFilled, BeginFilled, IsStopped, IsLeft, ValueOutcome}
 use Rattle.asn1_x690_encode.specs.Steps.{misfit_here}
+
+-- a default value has as many bits as its span
+sized : (b : Bool) (octets : List ℕ) (s : Span) (list : List Bool) → nat_le (s.at + s.count) (8 * length octets) ≡ b
+    → bits_if b octets s ≡ Some list → length list ≡ s.count
+sized false octets s list h e = absurd cc
+sized true octets s list h e =
+    let f : Some (bits_of (bits octets) s) ≡ Some list = e in
+    let is : bits_of (bits octets) s ≡ list = cc in
+    ap (λ (l : List Bool). length l) (sym is) ∙ span_length octets s (leb-true (s.at + s.count) (8 * length octets) h)
+
+pub default_size : (d : Defaults) (value : ℕ) (s : Span) (list : List Bool) → slice_get d.spans.now value ≡ Some s
+    → default_in d false value 0 ≡ Some list → length list ≡ s.count
+default_size d value s list e is =
+    sized (nat_le (s.at + s.count) (8 * length d.octets.now)) d.octets.now s list refl
+    (subst (λ (o : Option Span). default_at d.octets.now o ≡ Some list) e is)
 
 module _ (c : Context) where
   -- what is left by one writer is left by another that stops where it does
@@ -31,11 +53,11 @@ module _ (c : Context) where
     -- parts begin with one value, which has one encoding
     pub one_value : (t xs ys rest other : Parts) (a b : List Bool) → P xs a → P ys b → t ≡ xs ++ rest → t ≡ ys ++ other
         → (xs ≡ ys) × (rest ≡ other) × (a ≡ b)
-    one_value = (encoding_at_good c.tables.nodes.now (tables_of c) depth inner).encodes.one
+    one_value = (encoding_at_good (nodes_of c) (tables_of c) depth inner).encodes.one
 
     -- parts that begin with a value have no misfit
     pub no_misfit : (t xs rest : Parts) (a : List Bool) (e : Misfit) → P xs a → t ≡ xs ++ rest → (element_in c depth inner).misfit t e → ⊥
-    no_misfit t xs rest a e p is m = (encoding_at_good c.tables.nodes.now (tables_of c) depth inner).encodes.excludes t e m xs rest a p is
+    no_misfit t xs rest a e p is m = (encoding_at_good (nodes_of c) (tables_of c) depth inner).encodes.excludes t e m xs rest a p is
 
   -- a value that begins with this identifier
   unfoldable pub value_filled : (V : TypeEncoding FaultKind) (was now : List ℕ) (old new : Writer) (found : FoundIdentifier)
@@ -71,7 +93,7 @@ module _ (c : Context) where
       pub again_rest : tape c copy.next ≡ rest
       again_rest = (one_value depth inner (tape c begun.next) a.parts parts (tape c copy.next) rest a.list list a.fills p a.taken here).1
 
-      -- where they are not all there, there are more than 504
+      -- where they are not all present, there are more than 504
       pub again_wide : begun.at ≡ 0 → length now ≡ 64 → (IsIn now 0 copy.at → ⊥) → 504 < length list
       again_wide begins size out =
           elim (cases_lt 504 (length list)) [

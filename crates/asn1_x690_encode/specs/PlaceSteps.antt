@@ -8,7 +8,7 @@ use Rattle.asn1_schema.specs.PiecesOfParts.{bits_at}
 use Rattle.asn1_x691_writers.specs.Written.{IsIndex, Holds, IsGrown}
 use Rattle.asn1_x690_encode.specs.Compared.{IsIn}
 
--- the octets have these bits after so many others
+-- the octets have these bits after `at` others
 pub record ArePlaced (octets : List ℕ) (at : ℕ) (list : List Bool) : Type 0 where
   pub front : List Bool
   pub rest : List Bool
@@ -23,7 +23,7 @@ exact at n few (inr p) = absurd (omega (arith, p.0, few))
 pub ends_after : (was now : List ℕ) (from to : ℕ) (list : List Bool) → IsGrown was from now to list → to + 8 < 2 ^ 64 → to ≡ from + length list
 ends_after was now from to list g few = exact to (from + length list) few (g.index from (inl refl))
 
--- bits that were written, and that are all in the octets, are there
+-- bits that were written, and that are all in the octets, are at their offset
 pub placed : (was now : List ℕ) (from to : ℕ) (list : List Bool) → length now ≡ length was → IsGrown was from now to list → IsIn now from to
     → ArePlaced now from list
 placed was now from to list same g h =

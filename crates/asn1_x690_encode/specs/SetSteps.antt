@@ -19,7 +19,7 @@ use Rattle.asn1_x691_writers.specs.Written.{IsIndex, IsGrown}
 use Rattle.asn1_x690_encode.specs.declared.context.Context.{Context}
 use Rattle.asn1_x690_encode.specs.declared.set.ItemStart.{ItemStart}
 use Rattle.asn1_x690_encode.specs.Compared.{IsIn}
-use Rattle.asn1_x690_encode.specs.Encoding.{tape, tables_of, element_in, in_order_in, IsFilled, IsStopped, Outcome}
+use Rattle.asn1_x690_encode.specs.Encoding.{nodes_of, tape, tables_of, element_in, in_order_in, IsFilled, IsStopped, Outcome}
 use Rattle.asn1_x690_encode.specs.ListSteps.{AreItems, TakesBits, element_takes, items_none, items_more}
 use Rattle.asn1_x690_encode.specs.PlaceSteps.{placed, placed_first, placed_second, found, ends_after}
 use Rattle.asn1_x690_encode.specs.Sets.{IsPreviousIn, IsOrdered, IsOrderedOrLeft}
@@ -61,7 +61,7 @@ module _ (c : Context) (depth node item : ℕ) where
   -- an element is no front of another one
   no_front : (l before : List Bool) (xs ys : Parts) → A.encoding.encodes xs l → A.encoding.encodes ys before → IsNoFront l before
   no_front l before xs ys p q more f =
-      let same = (encoding_at_good c.tables.nodes.now (tables_of c) depth item).decodes.one.one before xs ys more []
+      let same = (encoding_at_good (nodes_of c) (tables_of c) depth item).decodes.one.one before xs ys more []
       (record { front = l; encoded = p; parts = f }) (record { front = before; encoded = q; parts = sym (append-nil before) }) in
       ap length same.1
 
@@ -119,7 +119,7 @@ module _ (c : Context) (depth node item : ℕ) where
         subst (λ (l : List Bool). IsOrdered node next before l new r) two
         (subst (λ (l : List Bool). IsOrdered node next l (bits_at (bits end) mid.at (last.at - mid.at)) new r) one o)
 
-    -- where they are not all there, there are more than 504 bits
+    -- where they are not all present, there are more than 504 bits
     pub wide : begun.at ≡ 0 → length end ≡ 64 → (begun.at ≤ mid.at → IsIn end mid.at last.at → ⊥) → 504 < length a.list + length b.list
     wide low size64 out =
         elim (cases_lt 504 (length a.list + length b.list)) [

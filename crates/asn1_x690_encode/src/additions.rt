@@ -153,7 +153,7 @@ fn encode_addition(
     }
 }
 
-/// Encodes the last of so many additions, of which the schema knows the first. Returns the first
+/// Encodes the last of `count` additions, of which the schema knows the first. Returns the first
 /// identifier, if there is one.
 pub(crate) fn encode_unknown(
     context: &Context<'_>,

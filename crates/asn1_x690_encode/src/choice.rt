@@ -32,13 +32,13 @@ fn is_chosen(part: Part, index: usize) -> bool
 pub(crate) enum Others {
     /// Nothing.
     Nothing,
-    /// The alternatives of additions, after so many of a root, and any other element.
+    /// The alternatives of additions, after this many of a root, and any other element.
     Additions(u32, Rows),
     /// Any other element.
     Unknown,
 }
 
-/// Returns what follows the alternatives of a root, of which there are so many.
+/// Returns what follows the alternatives of a root, of which there are `before`.
 fn others_by(is_extensible: bool, before: u32, additions: Rows) -> Others
     ensures { result ≡ others_by is_extensible before additions }
 {
@@ -82,7 +82,7 @@ pub(crate) fn encode_choice(
     )
 }
 
-/// Encodes an alternative, one of so many from an index on. Its tag must be one of its first tags, and
+/// Encodes an alternative, one of `count` from an index on. Its tag must be one of its first tags, and
 /// none of those of the alternatives before it.
 #[cycle(encoding)]
 pub(crate) fn encode_alternatives(

@@ -7,6 +7,7 @@ use asn1_schema::{Member, Node, Part, Rows, Tables};
 use asn1_x690::{FirstTags, Tag, TagTables, TypeTags};
 use asn1_x691_fields::Defaults;
 use asn1_x691_writers::Writer;
+use std::cell::Cell;
 
 /// A schema, and the parts of the value to encode.
 #[derive(Clone, Copy, Debug)]
@@ -21,6 +22,12 @@ pub struct Context<'s> {
     pub parts: &'s [Part],
     /// The octets in which the parts have their bits.
     pub source: &'s [u8],
+    /// Whether an item of a SET OF must not be before the one that it follows (X.690 11.6), as in DER.
+    pub is_ordered: bool,
+    /// How many octets the length of each element takes, at the part with which it begins. They change
+    /// nothing of what is encoded: with them, as [`measure`](crate::measure) sets them, it takes time linear in the
+    /// message. Empty, or one for each part.
+    pub lengths: &'s [Cell<u8>],
 }
 
 /// Returns the part at an index.

@@ -52,7 +52,7 @@ pub(crate) fn encode_group(
     Some(begins)
 }
 
-/// Encodes the components of an addition group after the part that tells how many there are, and the
+/// Encodes the components of an addition group after the part with their number, and the
 /// additions after the group.
 #[cycle(encoding)]
 fn encode_grouped(

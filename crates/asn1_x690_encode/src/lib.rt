@@ -10,6 +10,7 @@ mod first_tags;
 mod group;
 mod inner;
 mod leaf;
+mod lengths;
 mod list;
 mod message;
 mod node;
@@ -19,4 +20,4 @@ mod value;
 mod within;
 
 pub use context::Context;
-pub use message::{Encoded, Misfit, encode};
+pub use message::{Encoded, Misfit, encode, measure};

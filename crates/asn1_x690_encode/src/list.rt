@@ -61,7 +61,7 @@ pub(crate) fn encode_list(
     }
 }
 
-/// Encodes so many items, which are in ascending order where they are those of a SET OF.
+/// Encodes `count` items, which are in ascending order where they are those of a SET OF.
 #[cycle(encoding)]
 fn encode_items_by(
     context: &Context<'_>,
@@ -86,7 +86,7 @@ fn encode_items_by(
     encode_items(context, depth, node, item, count, octets, state)
 }
 
-/// Encodes so many items.
+/// Encodes `count` items.
 #[cycle(encoding)]
 fn encode_items(
     context: &Context<'_>,

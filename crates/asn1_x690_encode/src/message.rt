@@ -1,10 +1,12 @@
 //! Encodes messages.
 
 ghost use Rattle.std.specs.Prelude.{◌-◌, ◌*◌, ◌^◌, ◌<◌, length, IfOk, IfErr};
-ghost use Rattle.asn1_x690_encode.specs.Messages.{IsMessage, IsRejected};
+ghost use Rattle.asn1_x690_encode.specs.Messages.{IsMeasured, IsMessage, IsRejected};
 
 use crate::context::Context;
+use crate::lengths::clear;
 use crate::node::encode_node;
+use asn1_x691_fields::Defaults;
 use asn1_x691_writers::{Rejection, Writer};
 use thiserror::Error;
 
@@ -66,6 +68,8 @@ pub struct Misfit {
 ///     },
 ///     parts: &[Part::Truth(true)],
 ///     source: &[],
+///     is_ordered: true,
+///     lengths: &[],
 /// };
 /// let mut octets = [0; 8];
 /// let node = schema.node_named("Yes").unwrap_or(0);
@@ -101,4 +105,65 @@ pub fn encode(
             parts: state.next,
         }),
     }
+}
+
+/// Counts the octets of the element of the first parts of a context, a value of the type at a node, and sets
+/// the `lengths` of the context: how many octets the length of each element takes. [`encode`] then moves no
+/// contents, and takes time linear in the message.
+///
+/// Values are not compared: a default value may be present, and the items of a SET OF may have any order. So
+/// the count is that of [`encode`] if that finds no misfit. The source must have fewer than 2^61 octets, and
+/// there must be fewer than 2^64 - 1 parts.
+///
+/// # Errors
+///
+/// Returns the first misfit, as [`encode`] does.
+///
+/// # Examples
+///
+/// ```
+/// use asn1_resolve::Schema;
+/// use asn1_schema::{Part, Span};
+/// use asn1_x690_encode::{Context, encode, measure};
+/// use asn1_x691_fields::Defaults;
+/// use std::cell::Cell;
+///
+/// let text = "M DEFINITIONS ::= BEGIN Text ::= OCTET STRING END";
+/// let schema = Schema::parse(rt.alloc(), text)?;
+/// let source = [7u8; 200];
+/// let lengths = [Cell::new(0)];
+/// let context = Context {
+///     tables: schema.tables(),
+///     tags: schema.tag_tables(),
+///     defaults: Defaults {
+///         octets: &[],
+///         spans: &[],
+///     },
+///     parts: &[Part::Octets(Span { at: 0, count: 1600 })],
+///     source: &source,
+///     is_ordered: true,
+///     lengths: &lengths,
+/// };
+/// let node = schema.node_named("Text").unwrap_or(0);
+/// assert!(rt; measure(&context, 10, node)?.octets == 203);
+/// assert!(rt; lengths[0].get() == 2);
+/// let mut octets = [0; 203];
+/// encode(&context, 10, node, &mut octets)?;
+/// assert!(rt; octets.get(..4) == Some([4, 0x81, 200, 7].as_slice()));
+/// ```
+pub fn measure(context: &Context<'_>, depth: usize, node: usize) -> Result<Encoded, Misfit>
+    requires source { 8 * length context.now.source.now < 2 ^ 64 }
+    requires parts { length context.now.parts.now < 2 ^ 64 - 1 }
+    ensures { IsMeasured context.now depth node result }
+{
+    clear(context.lengths);
+    let uncompared = Context {
+        defaults: Defaults {
+            octets: &[],
+            spans: &[],
+        },
+        is_ordered: false,
+        ..*context
+    };
+    encode(&uncompared, depth, node, &mut [])
 }

@@ -186,7 +186,7 @@ pub(crate) fn encode_contents(
             context,
             depth,
             node,
-            true,
+            context.is_ordered,
             is_extensible,
             length,
             item,

@@ -43,7 +43,7 @@ pub(crate) struct LeftAdditions {
     pub(crate) count: usize,
 }
 
-/// Returns whether so many components follow a part, and whether additions follow them as asked.
+/// Returns whether `count` components follow a part, and additions as `is_extended` says.
 pub(crate) fn is_sequence(part: Part, count: usize, is_extended: bool) -> bool
     ensures is { result ≡ true → part ≡ SequencePart count is_extended }
     ensures other { (ranges : List Range) (source : List ℕ) → result ≡ false → piece_in ranges source part ≡ Sequence count is_extended → ⊥ }
@@ -120,7 +120,7 @@ pub(crate) fn encode_sequence(
     }
 }
 
-/// Returns whether additions follow the components of a root, of which so many follow a part.
+/// Returns whether additions follow the components of a root, of which `count` follow a part.
 fn extended_by(part: Part, count: usize) -> Option<bool>
     ensures { MatchOption result ((ranges : List Range) (source : List ℕ) (b : Bool) → piece_in ranges source part ≡ Sequence count b → ⊥)
         (λ b. part ≡ SequencePart count b) }
@@ -180,7 +180,7 @@ pub(crate) fn encode_extensible_sequence(
     }
 }
 
-/// Encodes so many components, which are members from an index on, and what follows them. Returns the first
+/// Encodes `count` components, which are members from an index on, and what follows them. Returns the first
 /// identifier, if there is one.
 #[inline(always)]
 #[cycle(encoding)]

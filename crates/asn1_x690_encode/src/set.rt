@@ -22,7 +22,7 @@ pub(crate) struct ItemStart {
     pub(crate) next: usize,
 }
 
-/// Encodes so many items, each of which is not before the one that it follows.
+/// Encodes `count` items, each of which is not before the one that it follows.
 #[cycle(encoding)]
 pub(crate) fn encode_set_items(
     context: &Context<'_>,

@@ -8,7 +8,7 @@ ghost use Rattle.asn1_x690_encode.specs.Encoding.{ValueOutcome, element_in, tape
 
 use crate::context::Context;
 use crate::node::encode_node;
-use crate::within::{WINDOW, is_in, leave_unread, stop};
+use crate::within::{WINDOW, is_in, leave_unread, may_be_default, stop};
 use asn1_schema::{MisfitKind, Presence};
 use asn1_x690_fields::FoundIdentifier;
 use asn1_x691_fields::is_default;
@@ -41,7 +41,7 @@ pub(crate) fn encode_value(
 }
 
 /// Encodes a value that is not the default one. Where the octets are too few for it, it is compared in
-/// octets of its own.
+/// octets of its own, if it has as many bits.
 #[cycle(encoding)]
 fn encode_other_than(
     context: &Context<'_>,
@@ -61,6 +61,9 @@ fn encode_other_than(
     let (from, first) = (state.at, state.next);
     let found = encode_node(context, depth, inner, octets, state)?;
     if !is_in(octets, from, state.at) {
+        if !may_be_default(context.defaults, value, from, state.at) {
+            return Some(found);
+        }
         if !is_other(context, depth, node, value, inner, first, state) {
             return None;
         }

@@ -10,7 +10,7 @@ use crate::state::{State, fail};
 use asn1_bits::{read_bits, read_wide};
 use asn1_x690::FaultKind;
 
-/// Returns the least first octet of a length of so many octets: one alone is from 128 on, and of
+/// Returns the least first octet of a length of `count` octets: one alone is from 128 on, and of
 /// others the first is not 0.
 #[inline(always)]
 fn least_first(count: usize) -> u32
@@ -20,7 +20,7 @@ fn least_first(count: usize) -> u32
     if count == 1 { 128 } else { 1 }
 }
 
-/// Reads a length of so many octets, one at least.
+/// Reads a length of `count` octets, one at least.
 fn next_long_length(octets: &[u8], count: usize, node: usize, state: &mut State) -> Option<usize>
     requires size { 8 * length octets.now < 2 ^ 64 }
     requires count { 0 < count }

@@ -11,7 +11,7 @@ use Rattle.asn1_schema.specs.PiecesOfParts.{bits_of}
 use Rattle.asn1_x690.specs.Leaves.{AreCharacters}
 use Rattle.asn1_x690_leaves.specs.Told.{AreOctetsOf}
 
--- the first of so many numbers, and the others
+-- the first of `left` numbers, and the others
 pub first_number : (width left more at : ℕ) (list : List Bool) → more + 1 ≡ left
     → numbers_in width left (drop at list) ≡ number (take width (drop at list)) ∷ numbers_in width more (drop (at + width) list)
 first_number width zero more at list e = absurd (omega (arith, e))
@@ -40,7 +40,7 @@ are_characters width (suc count) list h =
 pub whole_count : (n w : ℕ) → 0 < w → n % w ≡ 0 → w * (n / w) ≡ n
 whole_count n w some e = omega (arith, some, e)
 
--- whole octets are so many characters
+-- whole octets are a number of characters
 pub characters : (list : List Bool) (s : Span) (w : ℕ) → AreOctetsOf list s → 0 < w → s.count % w ≡ 0
     → AreCharacters w (numbers_in w (s.count / w) (drop s.at list)) (bits_of list s)
 characters list s w h some e =
@@ -49,7 +49,7 @@ characters list s w h some e =
     subst (λ (n : ℕ). AreCharacters w (numbers_in w (s.count / w) (drop s.at list)) (take n (drop s.at list))) f
     (are_characters w (s.count / w) (drop s.at list) (omega (arith, f, i, length-drop s.at list)))
 
--- so many characters have so many bits
+-- characters have `width` bits each
 pub text_size : (width : ℕ) (text : List ℕ) (list : List Bool) → AreCharacters width text list → length list ≡ width * length text
 text_size width [] list p = ap length p ∙ omega arith
 text_size width (c ∷ text) list p =

@@ -13,7 +13,7 @@ use asn1_bits::read_bits;
 use asn1_schema::{Length, Part, Span};
 use asn1_x690::FaultKind;
 
-/// Returns the bits of a BIT STRING: those after the first octet, which tells how many of the last
+/// Returns the bits of a BIT STRING: those after the first octet, which says how many of the last
 /// octet are unused. The unused bits are zeros.
 fn bits_in(octets: &[u8], span: Span) -> Option<Span>
     requires size { 8 * length octets.now < 2 ^ 64 }

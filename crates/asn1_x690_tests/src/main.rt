@@ -21,17 +21,18 @@ use asn1_test_rows::{Answers, RowError, hex_of, octets, run, wrong};
 use asn1_x690::Class;
 use asn1_x690_decode::{Context, Defaults, decode, explain};
 use asn1_x690_elements::decode_elements;
-use asn1_x690_encode::{Context as Value, encode};
+use asn1_x690_encode::{Context as Value, encode, measure};
 use asn1_x690_fields::{FoundIdentifier, Header};
 use asn1_x691_writers::Rejection;
 use std::alloc::Global;
+use std::cell::Cell;
 use std::io::BufReader;
 use std::process::ExitCode;
 
-/// How many elements a row has at most.
+/// The most elements of a row.
 const ROOM: usize = 1_000;
 
-/// How deep an element of a row is nested at most.
+/// The greatest depth of an element of a row.
 const DEPTH: usize = 100;
 
 /// Returns the letter of a class.
@@ -99,9 +100,47 @@ fn is_left(part: &Part) -> bool {
     matches!(*part, Part::Signed(_))
 }
 
-/// Encodes the parts of a message, and returns whether that makes the message again, or leaves a part
-/// that is left. Without room the same number of octets is needed, unless a value of more than 504
-/// bits must be compared.
+/// Returns whether a value is encoded as this message with any numbers of octets reserved for lengths:
+/// those of [`measure`], none, or others.
+fn is_encoded_with_lengths(
+    alloc: Global,
+    value: &Value<'_>,
+    node: usize,
+    message: &[u8],
+) -> Result<bool, RowError> {
+    if value.parts.len() > ROOM || value.source.len() > 1_000_000 || message.len() > 1_000_000 {
+        return Ok(false);
+    }
+    let mut lengths = Vec::new(alloc);
+    for _ in value.parts {
+        lengths.push(Cell::new(0u8))?;
+    }
+    let measured = Value {
+        lengths: lengths.as_slice(),
+        ..*value
+    };
+    let mut is_same = match measure(&measured, DEPTH, node) {
+        Ok(encoded) => encoded.octets == message.len(),
+        Err(_) => false,
+    };
+    for reserved in [None, Some(0), Some(2), Some(3), Some(9)] {
+        if let Some(count) = reserved {
+            for length in lengths.as_slice() {
+                length.set(count);
+            }
+        }
+        let mut room = vec![in alloc; 0u8; message.len()]?;
+        match encode(&measured, DEPTH, node, room.as_mut_slice()) {
+            Ok(_) => is_same = is_same && room.as_slice() == message,
+            Err(_) => is_same = false,
+        }
+    }
+    Ok(is_same)
+}
+
+/// Encodes the parts of a message, and returns whether that makes the message again, or the encoder
+/// leaves a part that it may leave. Without room the same number of octets is needed, unless a
+/// value of more than 504 bits must be compared.
 fn is_encoded_again(
     alloc: Global,
     context: &Context<'_>,
@@ -118,6 +157,8 @@ fn is_encoded_again(
         defaults: context.defaults,
         parts,
         source: octets,
+        is_ordered: true,
+        lengths: &[],
     };
     let is_left = parts.iter().any(is_left);
     let is_measured = match encode(&value, DEPTH, node, &mut []) {
@@ -127,7 +168,10 @@ fn is_encoded_again(
     };
     let mut room = vec![in alloc; 0u8; octets.len() + 8]?;
     match encode(&value, DEPTH, node, room.as_mut_slice()) {
-        Ok(encoded) => { Ok(is_measured && room.as_slice().get(..encoded.octets) == Some(octets)) }
+        Ok(encoded) => {
+            let is_same = room.as_slice().get(..encoded.octets) == Some(octets);
+            Ok(is_measured && is_same && is_encoded_with_lengths(alloc, &value, node, octets)?)
+        }
         Err(misfit) => Ok(is_measured && is_left && misfit.reason == Rejection::Unsupported),
     }
 }
@@ -160,6 +204,8 @@ fn encoded_as(
         defaults: of.defaults,
         parts,
         source: octets,
+        is_ordered: true,
+        lengths: &[],
     };
     let mut message = vec![in alloc; 0u8; octets.len() + 8]?;
     match encode(&value, DEPTH, to.node, message.as_mut_slice()) {

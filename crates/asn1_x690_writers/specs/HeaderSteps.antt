@@ -1,11 +1,10 @@
 -- What follows of identifier octets and lengths that were written.
-use Rattle.std.proofs.Common.{◌≡◌, ◌≢◌, ℕ, zero, suc, ◌+◌, ◌-◌, ◌*◌, ◌/◌, ◌%◌, ◌^◌, ◌<◌, ◌≤◌, ◌⊎◌, inl, inr, List, [], ◌∷◌, ◌++◌, Bool, length, take, drop, refl, sym, ◌∙◌, ap, subst, arith, append_assoc}
-use Rattle.std.proofs.lemmas.List.{length-append, append-nil, length-drop, length-take-le}
-use Rattle.std.proofs.lemmas.List.{take_at, drop_at, take-take}
-use borrow.Rule.Slice.PartMut.{put_mid, post_of}
+use Rattle.std.proofs.Common.{◌≡◌, ◌≢◌, ℕ, zero, suc, ◌+◌, ◌-◌, ◌*◌, ◌/◌, ◌%◌, ◌^◌, ◌<◌, ◌≤◌, ◌⊎◌, inl, inr, List, [], ◌∷◌, ◌++◌, Bool, length, take, drop, refl, sym, ◌∙◌, ap, subst, arith}
+use Rattle.std.proofs.lemmas.List.{length-append, append-nil, length-drop, length-take-le, drop_at, drop-take}
+use Rattle.std.proofs.lemmas.List.Edits.{take-paste}
 use Rattle.std.proofs.lemmas.Nat.{pow-add, div-mul-add}
 use Rattle.std.proofs.Math.Nat.{mul-le-mul_left}
-use Rattle.std.proofs.Math.Seq.{take-append-add}
+use Rattle.std.proofs.Math.Seq.{take-append-add, paste}
 use Rattle.asn1_bits.specs.Bits.{bits, digits, is_odd, overwritten}
 use Rattle.asn1_bits.specs.Laws.DigitLaws.{length-digits, length-bits, bits-take, bits-drop}
 use Rattle.asn1_bits.specs.Laws.NumberLaws.{digits-append, digits-low}
@@ -111,39 +110,26 @@ digits_whole n k = omega (arith, length-bits (last_octets n k))
 
 -- ---- contents that were moved
 
--- octets go to the next index, and that after them to their first
-pub moved : (old part now : List ℕ) (index count : ℕ) → index + count < length old → part ≡ take (index + count + 1 - index) (drop index old)
-    → now ≡ drop (length part - 1) part ++ take (length part - 1) part
-    → take (8 * count) (drop (8 * (index + 1)) (bits (put_mid index (index + count + 1 - index) old now))) ≡ take (8 * count) (drop (8 * index) (bits old))
-moved old part now index count room is turned =
-    let rest = post_of index (index + count + 1 - index) old in
-    let new = put_mid index (index + count + 1 - index) old now in
-    let left = length-drop index old in
-    let many : index + count + 1 - index ≡ count + 1 = omega arith in
-    let size : length part ≡ count + 1 =
-    ap length is ∙ ap (λ (k : ℕ). length (take k (drop index old))) many ∙ length-take-le (count + 1) (drop index old) (omega (arith, left, room)) in
-    let n : length part - 1 ≡ count = omega (arith, size) in
-    let back = drop count part in
-    let front = take count part in
-    let are : now ≡ back ++ front = turned ∙ ap (λ (k : ℕ). drop k part ++ take k part) n in
-    let before = take index old ++ back in
-    let at : length before ≡ index + 1 =
-    omega (arith, length-append (take index old) back, length-take-le index old (omega (arith, room)), length-drop count part, size) in
-    let parted : new ≡ before ++ (front ++ rest) =
-    ap (λ (l : List ℕ). take index old ++ (l ++ rest)) are
-    ∙ ap (λ (l : List ℕ). take index old ++ l) (append_assoc back front rest)
-    ∙ sym (append_assoc (take index old) back (front ++ rest)) in
-    let there : take count (drop (index + 1) new) ≡ take count (drop index old) =
-    ap (λ (l : List ℕ). take count (drop (index + 1) l)) parted
-    ∙ ap (λ (l : List ℕ). take count l) (drop_at before (front ++ rest) (index + 1) at)
-    ∙ take_at front rest count (length-take-le count part (omega (arith, size)))
-    ∙ ap (λ (l : List ℕ). take count l) is
-    ∙ take-take count (index + count + 1 - index) (drop index old) (omega arith) in
-    ap (λ (l : List Bool). take (8 * count) l) (sym (bits-drop (index + 1) new))
-    ∙ sym (bits-take count (drop (index + 1) new))
-    ∙ ap bits there
-    ∙ bits-take count (drop index old)
-    ∙ ap (λ (l : List Bool). take (8 * count) l) (bits-drop index old)
+-- octets were copied from one index to another
+pub moved : (old new : List ℕ) (from to count : ℕ) → from + count ≤ length old → to + count ≤ length old
+    → new ≡ paste old to (drop from old) (from + count - from)
+    → take (8 * count) (drop (8 * to) (bits new)) ≡ take (8 * count) (drop (8 * from) (bits old))
+moved old new from to count here there is =
+    let many : from + count - from ≡ count = omega arith in
+    let front : length (take to old) ≡ to = length-take-le to old (omega (arith, there)) in
+    let left : count ≤ length (drop from old) = omega (arith, here, length-drop from old) in
+    let first : take (to + count) new ≡ take to old ++ take count (drop from old) =
+    ap (λ (l : List ℕ). take (to + count) l) (is ∙ ap (λ (k : ℕ). paste old to (drop from old) k) many)
+    ∙ take-paste old to (drop from old) count (omega (arith, there)) left in
+    let same : take count (drop to new) ≡ take count (drop from old) =
+    sym (drop-take to count new)
+    ∙ ap (λ (l : List ℕ). drop to l) first
+    ∙ drop_at (take to old) (take count (drop from old)) to front in
+    ap (λ (l : List Bool). take (8 * count) l) (sym (bits-drop to new))
+    ∙ sym (bits-take count (drop to new))
+    ∙ ap bits same
+    ∙ bits-take count (drop from old)
+    ∙ ap (λ (l : List Bool). take (8 * count) l) (bits-drop from old)
 
 -- ---- lengths
 
@@ -207,13 +193,13 @@ long_length n more value high some few holds least e node =
 
 -- ---- a length before contents
 
-pub length_written : (contents : List Bool) (count value width : ℕ) (old mid now : List ℕ)
+pub length_written : (contents : List Bool) (count value width reserved : ℕ) (old mid now : List ℕ)
     → ((node : ℕ) → (length_octets node).encodes count (digits value width)) → length contents ≡ 8 * count → 8 * (width / 8) ≡ width
-    → length mid ≡ length old → width / 8 + count ≤ length old → HaveBits old 8 contents
-    → take (8 * count) (drop (8 * (width / 8)) (bits mid)) ≡ take (8 * count) (drop 8 (bits old)) → 8 ≤ width
+    → reserved + count ≤ length old → HaveBits old (8 * reserved) contents
+    → take (8 * count) (drop (8 * (width / 8)) (bits mid)) ≡ take (8 * count) (drop (8 * reserved) (bits old))
     → bits now ≡ overwritten (bits mid) 0 (digits value width) → IsLengthBefore contents count now width
 unfolding overwritten
-length_written contents count value width old mid now encodes size whole same room have moved some over =
+length_written contents count value width reserved old mid now encodes size whole room have moved over =
     let list = digits value width in
     let w : length list ≡ width = length-digits value width in
     let rest = drop (0 + length list) (bits mid) in
@@ -223,8 +209,8 @@ length_written contents count value width old mid now encodes size whole same ro
     ap (λ (k : ℕ). take k rest) size
     ∙ ap (λ (k : ℕ). take (8 * count) (drop k (bits mid))) (sym e)
     ∙ moved
-    ∙ ap (λ (k : ℕ). take k (drop 8 (bits old))) (sym size)
-    ∙ have (omega (arith, size, room, whole, some)) in
+    ∙ ap (λ (k : ℕ). take k (drop (8 * reserved) (bits old))) (sym size)
+    ∙ have (omega (arith, size, room)) in
     record {
       list = list;
       encodes = encodes;
@@ -237,11 +223,11 @@ length_written contents count value width old mid now encodes size whole same ro
     }
 
 pub length_short : (contents : List Bool) (count value width : ℕ) (old : List ℕ)
-    → ((node : ℕ) → (length_octets node).encodes count (digits value width)) → length contents ≡ 8 * count → 8 * (width / 8) ≡ width
-    → length old < width / 8 + count → IsLengthBefore contents count old width
-length_short contents count value width old encodes size whole short = record {
+    → ((node : ℕ) → (length_octets node).encodes count (digits value width)) → length contents ≡ 8 * count
+    → 8 * length old < width + 8 * count → IsLengthBefore contents count old width
+length_short contents count value width old encodes size short = record {
   list = digits value width;
   encodes = encodes;
   size = length-digits value width;
-  have = λ le. absurd (omega (arith, le, size, whole, short, length-append (digits value width) contents, length-digits value width));
+  have = λ le. absurd (omega (arith, le, size, short, length-append (digits value width) contents, length-digits value width));
 }

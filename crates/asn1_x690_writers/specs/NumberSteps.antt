@@ -61,7 +61,7 @@ eight (suc k) =
     let ih = eight k in
     sym (ap (λ (n : ℕ). 2 ^ n) e ∙ p ∙ (omega (arith, ih, q)))
 
--- as many ones as so many octets have bits
+-- as many ones as `count` octets have bits
 pub mask_is : (count : ℕ) → count ≤ 16 → (2 ^ 128 - 1) / 2 ^ (128 - 8 * count) ≡ 2 ^ (8 * count) - 1
 mask_is count few =
     let P = 2 ^ (8 * count) in

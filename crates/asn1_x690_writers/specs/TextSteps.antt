@@ -39,12 +39,12 @@ not_cut x c width few e below = let up : 2 ^ width ≤ 2 ^ 32 = pow_mono few in 
 pub is_character : (x c width : ℕ) → width ≤ 32 → c ≡ min x (2 ^ 32) → c < 2 ^ width → c ≡ x
 is_character x c width few e below = let up : 2 ^ width ≤ 2 ^ 32 = pow_mono few in omega (arith, e, below, up)
 
--- characters that have contents octets have so many bits each
+-- characters that have contents octets are numbers of `width` bits each
 pub within_bits : (width : ℕ) (text : List ℕ) (list : List Bool) → AreCharacters width text list → AreWithin width text
 within_bits width [] list p = tt
 within_bits width (c ∷ text) list p = (p.1, within_bits width text p.0 p.2)
 
--- so many characters are written, and others are left
+-- some characters are written, and others are left
 pub record IsTextUnderway (width : ℕ) (all : List ℕ) (was : List ℕ) (old : ℕ) (now : List ℕ) (at : ℕ) (left : List ℕ) : Type 0 where
   pub front : List Bool
   pub whole : length front % 8 ≡ 0

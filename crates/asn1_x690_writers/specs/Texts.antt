@@ -6,11 +6,11 @@ use Rattle.asn1_schema.specs.declared.part.Codes.TheVariants.{Numbers}
 use Rattle.asn1_x690.specs.Leaves.{AreCharacters}
 use Rattle.asn1_x691_writers.specs.Written.{IsGrown}
 
--- each character has so many bits
+-- each character has `width` bits
 abbrev pub AreWithin : ℕ → List ℕ → Type 0
 AreWithin width text = AllByRecursion (λ c. c < 2 ^ width) text
 
--- the characters are numbers of so many bits, which are in the source
+-- the characters are numbers of `width` bits, which are in the source
 pub record ArePlain (source : List ℕ) (width : ℕ) (text : Characters) : Type 0 where
   pub numbers : text.codes ≡ Numbers
   pub size : text.width ≡ width

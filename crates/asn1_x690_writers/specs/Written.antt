@@ -13,13 +13,17 @@ pub record IsWritten {X : Type 0} (A : ℕ → Encoding FaultKind X) (x : X) (wa
   pub whole : length list % 8 ≡ 0
   pub grown : IsGrown was old now new list
 
--- the octets have these bits after so many others, unless they are too few
+-- the octets have these bits after `at` others, unless they are too few
 abbrev pub HaveBits : List ℕ → ℕ → List Bool → Type 0
 HaveBits octets at list = at + length list ≤ 8 * length octets → take (length list) (drop at (bits octets)) ≡ list
 
--- the octets begin with a length of so many bits, and with as many contents octets as it says
+-- the octets begin with a length of `width` bits, and with as many contents octets as it says
 pub record IsLengthBefore (contents : List Bool) (count : ℕ) (now : List ℕ) (width : ℕ) : Type 0 where
   pub list : List Bool
   pub encodes : (node : ℕ) → (length_octets node).encodes count list
   pub size : length list ≡ width
   pub have : HaveBits now 0 (list ++ contents)
+
+-- if contents of `count` octets fit after their length of `width` bits, all of them fit after the reserved octets
+abbrev pub AreNotCut : List ℕ → ℕ → ℕ → ℕ → Type 0
+AreNotCut was reserved count width = width + 8 * count ≤ 8 * length was → reserved + count ≤ length was

@@ -101,7 +101,7 @@ fn put_value(
     }
 }
 
-/// Returns so many numbers of the table from an index on, those that it has.
+/// Returns `count` numbers of the table from an index on, those that it has.
 fn numbers_in(numbers: &[i128], from: usize, count: usize) -> &[i128]
     requires { count < 2 ^ 34 }
     ensures { result.now ≡ slice_range numbers.now from (from + count) }

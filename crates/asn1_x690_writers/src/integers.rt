@@ -38,7 +38,7 @@ fn octets_past_first(magnitude: u128) -> usize
     15
 }
 
-/// Returns the digits of a number in so many octets of two's complement.
+/// Returns the digits of a number in `count` octets of two's complement.
 fn digits_of(z: i128, count: usize) -> u128
     requires some { 0 < count }
     requires few { count ≤ 16 }

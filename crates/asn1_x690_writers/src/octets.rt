@@ -46,7 +46,7 @@ pub fn put_span(octets: &mut [u8], at: usize, source: &[u8], from: usize, count:
     requires within { from + count ≤ 8 * length source.now }
     ensures { IsGrown octets.old at octets.new result (take count (drop from (bits source.now))) }
 {
-    // A number is written with eight octets that are there.
+    // A number is written with eight octets that exist.
     if count <= 57 && at / 8 < octets.len().saturating_sub(7) {
         return put_bits(octets, at, source, from, count);
     }

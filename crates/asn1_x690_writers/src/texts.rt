@@ -33,8 +33,8 @@ fn width_of(characters: CharacterSize) -> usize
     }
 }
 
-/// Returns whether the characters of a part are numbers of so many bits in the source, so that they are
-/// written as they are there.
+/// Returns whether the characters of a part are numbers of `width` bits in the source, so that they are
+/// written unchanged.
 #[inline(always)]
 pub(crate) fn are_plain(source: &[u8], width: usize, text: Characters) -> bool
     requires source { 8 * length source.now < 2 ^ 64 }

@@ -9,7 +9,7 @@ use Rattle.asn1_schema.specs.Laws.ValueLaws.{values_append, one_value, as_many, 
 use Rattle.asn1_x690.specs.TypeContents.{TypeContents, ToldContents, ByHeader, headed, only_header, any_header, either, leaf_contents, told, nothing_more, present, required, perhaps, prefixed, to_end, renamed, some_or_none}
 use Rattle.asn1_x690.specs.Laws.GroupLaws.{values_split}
 
--- the parts of each value are so many values
+-- the parts of each value are `n` values
 abbrev pub GivesValues : {K : Type 0} → ℕ → TypeEncoding K → Type 0
 GivesValues n A = (parts : Parts) (list : List Bool) → A.encoding.encodes parts list → AreValues n parts
 
@@ -23,7 +23,7 @@ HeaderGives n B = (t : _) (parts : Parts) (list : List Bool) → (B.contents t).
 abbrev pub ToldGives : {K X : Type 0} → (X → ℕ → Type 0) → ToldContents K X → Type 0
 ToldGives {K} {X} R F = (v : X × Parts) (list : List Bool) → F.contents.fills v list → (n : ℕ) × (R v.0 n × AreValues n v.1)
 
--- so many values more
+-- `count` values more
 abbrev pub After : {X : Type 0} → ℕ → (X → ℕ → Type 0) → X → ℕ → Type 0
 After count R x n = (m : ℕ) × (R x m × (n ≡ count + m))
 
@@ -137,7 +137,7 @@ module _ {K : Type 0} (extra : K) (node : ℕ) (A : List Bool → TypeEncoding K
   pub to_end_gives : ToldGives AsMany (to_end extra node A)
   to_end_gives v list p = (v.0, (refl, items_give (length list) [] v list p))
 
--- so many, and those that are told
+-- `count`, and those that are told
 abbrev pub Beyond : ℕ → ℕ → ℕ → Type 0
 Beyond count x n = x ≡ count + n
 

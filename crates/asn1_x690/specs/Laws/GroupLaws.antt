@@ -88,7 +88,7 @@ module _ {K X : Type 0} (q : Piece) (node : ℕ) (F : ToldContents K X) where
 
 -- ---- values after one another
 
--- so many values, and so many others after them
+-- `k` values, and `m` others after them
 pub record AreBoth (k m : ℕ) (xs : Parts) : Type 0 where
   pub held : Parts
   pub others : Parts

@@ -33,14 +33,29 @@ element::encode_inner-returns-in-Tagged = elements.encode_inner-returns-in-Tagge
 pub element::encode_inner-returns-in-Around : goal.element::encode_inner-returns-in-Around
 element::encode_inner-returns-in-Around = elements.encode_inner-returns-in-Around
 
-pub element::encode_enclosed-returns-then-state-ge-MOST : goal.element::encode_enclosed-returns-then-state-ge-MOST
-element::encode_enclosed-returns-then-state-ge-MOST = elements.encode_enclosed-returns-then-state-ge-MOST
+pub element::encode_body_after-returns-then-count-ge-MOST : goal.element::encode_body_after-returns-then-count-ge-MOST
+element::encode_body_after-returns-then-count-ge-MOST = elements.encode_body_after-returns-then-count-ge-MOST
 
-pub element::encode_enclosed-returns : goal.element::encode_enclosed-returns
-element::encode_enclosed-returns = elements.encode_enclosed-returns
+pub element::encode_body_after-returns : goal.element::encode_body_after-returns
+element::encode_body_after-returns = elements.encode_body_after-returns
 
-pub element::encode_enclosed-returns-then-not-encode_inner : goal.element::encode_enclosed-returns-then-not-encode_inner
-element::encode_enclosed-returns-then-not-encode_inner = elements.encode_enclosed-returns-then-not-encode_inner
+pub element::encode_body_after-returns-then-not-encode_inner : goal.element::encode_body_after-returns-then-not-encode_inner
+element::encode_body_after-returns-then-not-encode_inner = elements.encode_body_after-returns-then-not-encode_inner
+
+pub element::encode_enclosed-returns-in-Some : goal.element::encode_enclosed-returns-in-Some
+element::encode_enclosed-returns-in-Some = elements.encode_enclosed-returns-in-Some
+
+pub element::encode_body_after-returns-then-is_cut : goal.element::encode_body_after-returns-then-is_cut
+element::encode_body_after-returns-then-is_cut = elements.encode_body_after-returns-then-is_cut
+
+pub element::encode_body_after_one-returns-then-bits-ge-MOST : goal.element::encode_body_after_one-returns-then-bits-ge-MOST
+element::encode_body_after_one-returns-then-bits-ge-MOST = elements.encode_body_after_one-returns-then-bits-ge-MOST
+
+pub element::encode_body_after_one-returns : goal.element::encode_body_after_one-returns
+element::encode_body_after_one-returns = elements.encode_body_after_one-returns
+
+pub element::encode_body_after_one-returns-then-not-encode_inner : goal.element::encode_body_after_one-returns-then-not-encode_inner
+element::encode_body_after_one-returns-then-not-encode_inner = elements.encode_body_after_one-returns-then-not-encode_inner
 
 pub node::encode_node_here-returns-then-is_headed : goal.node::encode_node_here-returns-then-is_headed
 node::encode_node_here-returns-then-is_headed = nodes.encode_node_here-returns-then-is_headed
@@ -314,6 +329,9 @@ value::encode_other_than-returns-then-not-is_other = values.encode_other_than-re
 
 pub value::encode_other_than-returns-then-not-is_in : goal.value::encode_other_than-returns-then-not-is_in
 value::encode_other_than-returns-then-not-is_in = values.encode_other_than-returns-then-not-is_in
+
+pub value::encode_other_than-returns-then-not-may_be_default : goal.value::encode_other_than-returns-then-not-may_be_default
+value::encode_other_than-returns-then-not-may_be_default = values.encode_other_than-returns-then-not-may_be_default
 
 pub value::encode_other_than-returns-then-is_default : goal.value::encode_other_than-returns-then-is_default
 value::encode_other_than-returns-then-is_default = values.encode_other_than-returns-then-is_default

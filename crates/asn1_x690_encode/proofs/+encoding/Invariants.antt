@@ -12,19 +12,34 @@ abbrev pub decreases-node::encode_node_here : goal.decreases-node::encode_node_h
 decreases-node::encode_node_here l = 2 ^ 80 * l.depth
 
 abbrev pub decreases-element::encode_tagged : goal.decreases-element::encode_tagged
-decreases-element::encode_tagged l = 2 ^ 80 * l.depth + 2 ^ 70 + 8 * length l.tags.now + 3
+decreases-element::encode_tagged l = 2 ^ 80 * l.depth + 2 ^ 70 + 64 * length l.tags.now + 3
 
 abbrev pub decreases-element::encode_tagged_within : goal.decreases-element::encode_tagged_within
-decreases-element::encode_tagged_within l = 2 ^ 80 * l.depth + 2 ^ 70 + 8 * length l.tags.now + 4
+decreases-element::encode_tagged_within l = 2 ^ 80 * l.depth + 2 ^ 70 + 64 * length l.tags.now + 4
 
 abbrev pub decreases-element::encode_around : goal.decreases-element::encode_around
-decreases-element::encode_around l = 2 ^ 80 * l.depth + 2 ^ 70 + 8 * length l.tags.now + 3
+decreases-element::encode_around l = 2 ^ 80 * l.depth + 2 ^ 70 + 64 * length l.tags.now + 3
 
 abbrev pub decreases-element::encode_enclosed : goal.decreases-element::encode_enclosed
-decreases-element::encode_enclosed l = 2 ^ 80 * l.depth + 2 ^ 70 + 8 * inner_size l.inner + 10
+decreases-element::encode_enclosed l = 2 ^ 80 * l.depth + 2 ^ 70 + 64 * inner_size l.inner + 60
+
+abbrev pub decreases-element::encode_body : goal.decreases-element::encode_body
+decreases-element::encode_body l = 2 ^ 80 * l.depth + 2 ^ 70 + 64 * inner_size l.inner + 59
+
+abbrev pub decreases-element::encode_body_after_one : goal.decreases-element::encode_body_after_one
+decreases-element::encode_body_after_one l = 2 ^ 80 * l.depth + 2 ^ 70 + 64 * inner_size l.inner + 58
+
+abbrev pub decreases-element::encode_body_by_lengths : goal.decreases-element::encode_body_by_lengths
+decreases-element::encode_body_by_lengths l = 2 ^ 80 * l.depth + 2 ^ 70 + 64 * inner_size l.inner + 58
+
+abbrev pub decreases-element::encode_body_after : goal.decreases-element::encode_body_after
+decreases-element::encode_body_after l = 2 ^ 80 * l.depth + 2 ^ 70 + 64 * inner_size l.inner + 20 + 3 * l.reserved
+
+abbrev pub decreases-element::encode_body_again : goal.decreases-element::encode_body_again
+decreases-element::encode_body_again l = 2 ^ 80 * l.depth + 2 ^ 70 + 64 * inner_size l.inner + 24
 
 abbrev pub decreases-element::encode_inner : goal.decreases-element::encode_inner
-decreases-element::encode_inner l = 2 ^ 80 * l.depth + 2 ^ 70 + 8 * inner_size l.inner + 9
+decreases-element::encode_inner l = 2 ^ 80 * l.depth + 2 ^ 70 + 64 * inner_size l.inner + 9
 
 abbrev pub decreases-node::encode_headed : goal.decreases-node::encode_headed
 decreases-node::encode_headed l = 2 ^ 80 * l.depth + 2 ^ 70 + 2

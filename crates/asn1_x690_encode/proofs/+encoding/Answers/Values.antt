@@ -63,6 +63,18 @@ encode_other_than-returns-then-not-is_in t c =
     (subst (λ (b : Bool). IsCompared cx a.node a.value old.next e.list m.new.state b) c.if-not-is_other.false
     (m.ensures.compared e.parts (tape cx k.new.state.next) e.list e.fills.0 e.taken))
 
+pub encode_other_than-returns-then-not-may_be_default : goal.value::encode_other_than-returns-then-not-may_be_default
+encode_other_than-returns-then-not-may_be_default t c =
+    let a = c.args in
+    let cx = a.context.now in
+    let was = a.octets.now in
+    let old = a.state.now in
+    let k = c.encode_node in
+    let f = c.in_ok-found.found in
+    let e = as_value cx a.inner (types cx a.depth a.inner) was old k.new.octets k.new.state (Some f) c.in_ok-found.ensures in
+    other_encoded cx a.depth a.node a.value a.inner was k.new.octets old k.new.state f e
+    (λ d. not_both c.may_be_default.result c.if-not-may_be_default.true (c.may_be_default.ensures e.list (e.grown.index old.at (inl refl)) d))
+
 pub encode_other_than-returns-then-is_default : goal.value::encode_other_than-returns-then-is_default
 encode_other_than-returns-then-is_default t c =
     let a = c.args in

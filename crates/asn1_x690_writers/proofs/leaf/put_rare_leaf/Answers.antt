@@ -110,8 +110,7 @@ returns-in-BitString c =
     subst
     (λ (n : Node). IsPut (LeftAt (IsLeftOut a.source.now n a.part.now p) a.node r.new.state) (leaf_in a.ranges.now a.numbers.now a.node a.tags.now n) p a.octets.now a.state.now
     r.new.octets r.new.state r.result) (sym k.is)
-    (none_left (LeftAt (IsLeftOut a.source.now (type.BitString k.length k.is_extensible k.has_names) a.part.now p) a.node r.new.state) (leaf_in a.ranges.now a.numbers.now a.node a.tags.now (type.BitString k.length k.is_extensible k.has_names)) p a.octets.now a.state.now
-    r.new.octets r.new.state r.result (r.ensures a.ranges.now))
+    (r.ensures a.ranges.now)
 
 pub returns-in-Text : goal.returns-in-Text
 returns-in-Text c =
