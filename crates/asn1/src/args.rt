@@ -87,7 +87,7 @@ pub struct Options<'m> {
     pub rules: Rules,
     /// The name of the type. It is empty if the subcommand has none.
     pub type_name: &'m str,
-    /// The form of the input. `None` if its look tells it.
+    /// The form of the input. `None` if it is recognised.
     pub from: Option<Form>,
     /// The form of the output.
     pub to: Form,

@@ -9,6 +9,7 @@ use asn1_schema::Part;
 use asn1_x690_decode::{Defaults, Explanation, explain};
 use asn1_x691_encode::Misfit;
 use std::alloc::Global;
+use std::cell::Cell;
 use thiserror::Error;
 
 /// What decodes and encodes values of one type.
@@ -61,6 +62,8 @@ pub struct Source<'s> {
     pub parts: &'s [Part],
     /// The octets.
     pub octets: &'s [u8],
+    /// A cell for each part, in which DER keeps how many octets lengths take.
+    pub lengths: &'s [Cell<u8>],
 }
 
 impl Codec {
@@ -87,6 +90,15 @@ impl Codec {
     /// Returns the encodings of default values.
     pub fn defaults(&self) -> Defaults<'_> {
         self.defaults.defaults()
+    }
+
+    /// Returns the rules, as items of a SET OF are compared by them.
+    pub fn rules(&self) -> asn1_canonical::Rules {
+        match self.rules {
+            Rules::Der => asn1_canonical::Rules::Der,
+            Rules::Uper => asn1_canonical::Rules::UnalignedPer,
+            Rules::Aper => asn1_canonical::Rules::AlignedPer,
+        }
     }
 
     /// Returns whether the rules are DER.
@@ -145,6 +157,18 @@ impl Codec {
                 kind,
             },
         ))
+    }
+
+    /// Returns how many octets the element of a value has, and sets the lengths of the source. `None` if the
+    /// rules are not DER, or the value does not fit the type.
+    pub fn measure(&self, schema: &Schema, target: Target, source: Source<'_>) -> Option<usize>
+        requires source { 8 * length source.octets.now < 2 ^ 64 }
+        requires parts { length source.parts.now < 2 ^ 64 - 1 }
+    {
+        if !self.is_der() {
+            return None;
+        }
+        measure_der(schema, &self.defaults, target, source)
     }
 
     /// Encodes a value of the type at a node into the caller's octets. The result tells how many octets
@@ -257,6 +281,31 @@ fn decode_per<'x>(
     }
 }
 
+/// Returns how many octets the element of a value has.
+fn measure_der<'x>(
+    schema: &'x Schema,
+    encodings: &'x DefaultEncodings,
+    target: Target,
+    source: Source<'x>,
+) -> Option<usize>
+    requires source { 8 * length source.octets.now < 2 ^ 64 }
+    requires parts { length source.parts.now < 2 ^ 64 - 1 }
+{
+    let context = asn1_x690_encode::Context {
+        tables: schema.tables(),
+        tags: schema.tag_tables(),
+        defaults: encodings.defaults(),
+        parts: source.parts,
+        source: source.octets,
+        is_ordered: true,
+        lengths: source.lengths,
+    };
+    match asn1_x690_encode::measure(&context, target.depth, target.node) {
+        Ok(encoded) => Some(encoded.octets),
+        Err(_) => None,
+    }
+}
+
 /// Encodes a value by DER.
 fn encode_der<'x>(
     schema: &'x Schema,
@@ -275,6 +324,8 @@ fn encode_der<'x>(
         defaults: encodings.defaults(),
         parts: source.parts,
         source: source.octets,
+        is_ordered: true,
+        lengths: source.lengths,
     };
     match asn1_x690_encode::encode(&context, target.depth, target.node, octets) {
         Ok(encoded) => Ok(encoded.octets),

@@ -125,8 +125,8 @@ impl Writer {
     }
 }
 
-/// Returns the tree of the elements of octets, one a line. Elements may be nested less deep than
-/// `depth`, and there may be so many.
+/// Returns the tree of the elements of octets, one a line. Elements must be nested less deep than
+/// `depth`, and be no more than the limit.
 ///
 /// # Errors
 ///

@@ -1,16 +1,16 @@
 //! From the parts of a value to octets.
 
-ghost use Rattle.std.specs.Prelude.{◌*◌, ◌^◌, ◌<◌, length};
-
 use crate::codec::{Codec, Source, Target};
-use crate::sets::{holder_of, items_of};
+use crate::sets::holder_of;
+use asn1_canonical::{Context, canonical_order};
 use asn1_json::Draft;
 use asn1_resolve::Schema;
-use asn1_schema::{MisfitKind, Node, Part};
+use asn1_schema::{MisfitKind, Part};
 use asn1_schema_values::end_of;
 use asn1_x691_encode::Misfit;
 use asn1_x691_writers::Rejection;
 use std::alloc::{AllocError, AllocFailed, Global};
+use std::cell::Cell;
 
 /// How many octets there is room for before their number is known.
 const FIRST_ROOM: usize = 256;
@@ -37,17 +37,6 @@ impl<T: Drop> From<AllocFailed<T>> for EncodeError {
     fn from(_error: AllocFailed<T>) -> EncodeError {
         EncodeError::Memory
     }
-}
-
-/// An item of a SET OF. Items are ordered by their octets.
-#[derive(PartialEq, Eq, PartialOrd, Ord, Drop)]
-struct Item {
-    /// Its encoding.
-    octets: Vec<u8>,
-    /// The index of its first part.
-    from: usize,
-    /// The index of the part after it.
-    to: usize,
 }
 
 /// Removes the additions among which an absent part is, if all of them are absent.
@@ -85,8 +74,7 @@ impl<'s> Encoder<'s> {
         let most = draft.parts().len();
         let mut last = EncodeError::Memory;
         for _ in 0..=most {
-            let node = self.target.node;
-            match self.octets_of(node, draft.parts(), draft.octets()) {
+            match self.octets_of(draft.parts(), draft.octets()) {
                 Ok(octets) => return Ok(octets),
                 Err(EncodeError::Memory) => return Err(EncodeError::Memory),
                 Err(EncodeError::Misfit(misfit)) => {
@@ -98,28 +86,36 @@ impl<'s> Encoder<'s> {
         Err(last)
     }
 
-    /// Encodes the value of a type that the first parts are.
+    /// Encodes the value that the first parts are.
     ///
     /// # Errors
     ///
     /// Returns the first part that does not fit its type, or `Memory`.
-    fn octets_of(
-        &self,
-        node: usize,
-        parts: &[Part],
-        source: &[u8],
-    ) -> Result<Vec<u8>, EncodeError> {
+    fn octets_of(&self, parts: &[Part], source: &[u8]) -> Result<Vec<u8>, EncodeError> {
         if source.len() > MOST || parts.len() > MOST {
             return Err(EncodeError::Memory);
         }
+        let mut lengths = Vec::new(self.alloc);
+        for _ in parts {
+            lengths.push(Cell::new(0))?;
+        }
+        let source = Source {
+            parts: &*parts,
+            octets: &*source,
+            lengths: lengths.as_slice(),
+        };
         let mut octets = Vec::new(self.alloc);
-        let mut room = FIRST_ROOM;
+        let measured = self.codec.measure(self.schema, self.target, source);
+        let mut room = measured.unwrap_or(FIRST_ROOM);
         for _ in 0..usize::BITS {
             if room > MOST {
                 break;
             }
             octets.resize(room, 0)?;
-            match self.attempt(node, parts, source, octets.as_mut_slice()) {
+            match self
+                .codec
+                .encode(self.schema, self.target, source, octets.as_mut_slice())
+            {
                 Ok(count) if count <= room => {
                     octets.truncate(count);
                     return Ok(octets);
@@ -134,31 +130,6 @@ impl<'s> Encoder<'s> {
         Err(EncodeError::Memory)
     }
 
-    /// Encodes the value of a type that the first parts are into the caller's octets. Returns how many
-    /// it needs.
-    fn attempt(
-        &self,
-        node: usize,
-        parts: &[Part],
-        source: &[u8],
-        octets: &mut [u8],
-    ) -> Result<usize, Misfit>
-        requires size { 8 * length octets.old < 2 ^ 64 }
-        requires source { 8 * length source.now < 2 ^ 64 }
-        requires parts { length parts.now < 2 ^ 61 }
-    {
-        let target = Target {
-            node,
-            depth: self.target.depth,
-            is_prefix: false,
-        };
-        let source = Source {
-            parts,
-            octets: source,
-        };
-        self.codec.encode(self.schema, target, source, octets)
-    }
-
     /// Changes the parts so that a misfit is gone, if it is a default value that is present, or items
     /// of a SET OF that are not in order.
     ///
@@ -166,77 +137,42 @@ impl<'s> Encoder<'s> {
     ///
     /// Returns the misfit if it is another one.
     fn mend(&self, draft: &mut Draft, misfit: Misfit) -> Result<(), EncodeError> {
-        let mut found = misfit;
-        let most = draft.parts().len();
-        for _ in 0..=most {
-            match found.reason {
-                Rejection::Misfit(MisfitKind::DefaultValue) => {
-                    let end = end_of(draft.parts(), found.part);
-                    draft.set_absent(found.part, end.unwrap_or(found.part));
-                    leave_out_additions(draft, found.part);
-                    return Ok(());
-                }
-                Rejection::Misfit(MisfitKind::NotAscending) => {
-                    match self.order(draft, found) {
-                        Err(EncodeError::Misfit(inner)) => found = inner,
-                        other => return other,
-                    }
-                }
-                _ => break,
+        match misfit.reason {
+            Rejection::Misfit(MisfitKind::DefaultValue) => {
+                let end = end_of(draft.parts(), misfit.part);
+                draft.set_absent(misfit.part, end.unwrap_or(misfit.part));
+                leave_out_additions(draft, misfit.part);
+                Ok(())
             }
+            Rejection::Misfit(MisfitKind::NotAscending) => self.order(draft, misfit),
+            _ => Err(EncodeError::Misfit(misfit)),
         }
-        Err(EncodeError::Misfit(found))
     }
 
-    /// Puts the items of a SET OF in order.
+    /// Puts the items of each SET OF in order, of which one is not.
     ///
     /// # Errors
     ///
-    /// Returns the first part of an item that does not fit its type, or `Memory`.
+    /// Returns the misfit if that changes nothing, or `Memory`.
     fn order(&self, draft: &mut Draft, misfit: Misfit) -> Result<(), EncodeError> {
-        let Some(Node::SetOf { item, .. }) = self.schema.tables().nodes.get(misfit.node).copied()
-        else {
-            return Ok(());
+        let mut parts = Vec::from_slice(self.alloc, draft.parts())?;
+        let context = Context {
+            tables: self.schema.tables(),
+            tags: self.schema.tag_tables(),
+            rules: self.codec.rules(),
+            source: draft.octets(),
         };
-        let Some(holder) = holder_of(draft.parts(), misfit.part) else {
-            return Ok(());
-        };
-        let items = items_of(self.alloc, draft.parts(), holder)?;
-        let ranges = self.in_order(item, draft.parts(), draft.octets(), items.as_slice())?;
-        draft.reorder(self.alloc, holder.saturating_add(1), ranges.as_slice())?;
+        let Target { node, depth, .. } = self.target;
+        let order = canonical_order(self.alloc, &context, depth, node, parts.as_mut_slice())?;
+        if order
+            .as_slice()
+            .iter()
+            .enumerate()
+            .all(|(index, from)| index == *from)
+        {
+            return Err(EncodeError::Misfit(misfit));
+        }
+        draft.reorder(self.alloc, order.as_slice())?;
         Ok(())
-    }
-
-    /// Returns the ranges of items in the ascending order of their encodings.
-    ///
-    /// # Errors
-    ///
-    /// Returns the first part of an item that does not fit its type, or `Memory`.
-    fn in_order(
-        &self,
-        node: usize,
-        parts: &[Part],
-        source: &[u8],
-        ranges: &[(usize, usize)],
-    ) -> Result<Vec<(usize, usize)>, EncodeError> {
-        let mut items = Vec::new(self.alloc);
-        for range in ranges {
-            let (from, to) = *range;
-            let own = parts.get(from..to).unwrap_or(&[]);
-            match self.octets_of(node, own, source) {
-                Ok(octets) => items.push(Item { octets, from, to })?,
-                Err(EncodeError::Misfit(misfit)) => {
-                    let part = misfit.part.saturating_add(from);
-                    return Err(EncodeError::Misfit(Misfit { part, ..misfit }));
-                }
-                Err(EncodeError::Memory) => return Err(EncodeError::Memory),
-            }
-        }
-        items.sort()?;
-        let mut ordered = Vec::new(self.alloc);
-        for item in items.as_slice() {
-            ordered.push((item.from, item.to))?;
-        }
-        Ok(ordered)
     }
 }

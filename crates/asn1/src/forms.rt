@@ -149,7 +149,7 @@ fn has_digit(octets: &[u8]) -> bool
     octets.iter().any(|octet| is_digit(*octet))
 }
 
-/// Returns the form of octets by their look. It is never `Base64`.
+/// Returns the form that octets are recognised as. It is never `Base64`.
 pub fn form_of(octets: &[u8]) -> Form
     ensures pem { has_block octets.now ≡ true → result ≡ Form.Pem }
     ensures hex { has_block octets.now ≡ false → is_of_digits octets.now ≡ true

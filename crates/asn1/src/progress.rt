@@ -2,7 +2,7 @@
 
 use std::rt::Runtime;
 
-/// How many octets an input has at least whose progress is shown.
+/// The least number of octets of an input whose progress is shown.
 const LARGE: usize = 1 << 20;
 
 /// Whether progress is shown on standard error.
@@ -19,7 +19,8 @@ impl Progress {
         }
     }
 
-    /// Says in a line what happens next to so many octets, if they are many. A failed write is ignored.
+    /// Prints a line that says what happens next to the octets, if they are many. A failed write is
+    /// ignored.
     pub fn say<R: Runtime>(self, rt: &R, what: &str, octets: usize) {
         if self.is_shown && octets >= LARGE {
             let _ = rt.eprintln(format_args!("{what} {octets} octets"));

@@ -17,8 +17,7 @@ pub struct Reason {
 /// From this length on, a length without an upper bound is in fragments (X.691 11.9.3.8).
 const FRAGMENT: usize = 16_384;
 
-/// Returns whether a part has so many items, characters, octets or bits that its length can be in
-/// fragments.
+/// Returns whether a part has enough items, characters, octets or bits for a length in fragments.
 pub fn is_long(part: Part) -> bool {
     match part {
         Part::Count(count) => count >= FRAGMENT,

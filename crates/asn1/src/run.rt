@@ -26,8 +26,8 @@ use std::{env, fs};
 /// The name of standard input in messages.
 const STANDARD_INPUT: &str = "<stdin>";
 
-/// Runs on the words of the command line, and returns the status: 0, 1 if the input is wrong, 2 if the
-/// program is called wrongly or a module is wrong.
+/// Runs on the words of the command line. Returns the exit status: 0, 1 if the input is invalid, 2 if
+/// the call or a module is invalid.
 pub fn run<R: Runtime + AllocGlobal>(rt: &R, progress: Progress) -> u8 {
     match answer(rt, progress) {
         Ok(status) => status,

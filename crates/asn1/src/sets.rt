@@ -1,8 +1,6 @@
-//! The items of a SET OF among the parts of a value.
+//! The values to which parts belong.
 
 use asn1_schema::Part;
-use asn1_schema_values::end_of;
-use std::alloc::{AllocError, Global};
 
 /// Returns how many values follow a part that belong to it.
 fn held_by(part: Part) -> usize {
@@ -33,29 +31,4 @@ pub fn holder_of(parts: &[Part], at: usize) -> Option<usize> {
         complete = complete.saturating_sub(held).saturating_add(1);
     }
     None
-}
-
-/// Returns where each item of the list that a part counts begins and ends.
-///
-/// # Errors
-///
-/// Returns an error if out of memory.
-pub fn items_of(
-    alloc: Global,
-    parts: &[Part],
-    holder: usize,
-) -> Result<Vec<(usize, usize)>, AllocError> {
-    let mut items = Vec::new(alloc);
-    let Some(Part::Count(count)) = parts.get(holder).copied() else {
-        return Ok(items);
-    };
-    let mut from = holder.saturating_add(1);
-    for _ in 0..count {
-        let Some(to) = end_of(parts, from) else {
-            break;
-        };
-        items.push((from, to))?;
-        from = to;
-    }
-    Ok(items)
 }

@@ -292,8 +292,8 @@ impl<'s> Shown<'s> {
         Ok(())
     }
 
-    /// Appends whether a component may be absent, and the index of its presence bit, before which there
-    /// are so many. Returns how many there are after it.
+    /// Appends whether a component may be absent, and the index of its presence bit, before which
+    /// there are `bits` presence bits. Returns their number after it.
     fn presence(&mut self, member: Member, bits: usize) -> Result<usize, AllocError> {
         match member.presence {
             Presence::Mandatory => return Ok(bits),

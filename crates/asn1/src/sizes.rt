@@ -29,13 +29,12 @@ const UNKNOWN: Extent = Extent {
     most: NONE,
 };
 
-/// Returns the extent of an open type with so many contents octets at least, and of other types
-/// whose length is not bounded.
+/// Returns the extent of a type of at least `least` bits without an upper bound.
 const fn unbounded(least: u64) -> Extent {
     Extent { least, most: NONE }
 }
 
-/// Returns the extent of values of so many bits.
+/// Returns the extent of values of `bits` bits.
 const fn fixed(bits: u64) -> Extent {
     Extent {
         least: bits,
@@ -44,7 +43,7 @@ const fn fixed(bits: u64) -> Extent {
 }
 
 impl Extent {
-    /// Returns the extent of a value after so many bits.
+    /// Returns the extent of a value after `bits` bits.
     fn after(self, bits: u64) -> Extent {
         Extent {
             least: self.least.saturating_add(bits),
@@ -87,7 +86,7 @@ fn width(most: u128) -> u64 {
     u64::from(u128::BITS - most.leading_zeros())
 }
 
-/// Returns the bits of the lengths of so many units (X.691 11.9).
+/// Returns the bits of the lengths of `count` units (X.691 11.9).
 fn length_bits(count: u64) -> u64 {
     if count == NONE {
         return NONE;
@@ -98,12 +97,13 @@ fn length_bits(count: u64) -> u64 {
     fragments.saturating_mul(8).saturating_add(bits)
 }
 
-/// Returns the bits of so many units, with their lengths.
+/// Returns the bits of `count` units, with their lengths.
 fn counted(count: u64, unit: u64) -> u64 {
     length_bits(count).saturating_add(unit.saturating_mul(count))
 }
 
-/// Returns the bits of an open type that holds so many bits: whole octets, one at least, after their number.
+/// Returns the bits of an open type around `bits` bits: whole octets, at least one, after their
+/// number.
 fn opened(bits: u64) -> u64 {
     if bits == NONE {
         return NONE;
@@ -121,7 +121,7 @@ fn small_number(number: u64) -> u64 {
     octets.saturating_mul(8).saturating_add(9)
 }
 
-/// Returns the bits of the number and the presence of so many additions (X.691 19.7, 19.8).
+/// Returns the bits of the number and the presence of `count` additions (X.691 19.7, 19.8).
 fn presence_of_additions(count: u64) -> u64 {
     let number = if count <= 64 {
         7

@@ -6,9 +6,9 @@ use std::fmt;
 /// Why a run has no result.
 #[derive(Debug, Drop)]
 pub enum Stop {
-    /// The input is wrong. The text says where and why.
+    /// The input is invalid. The text says where and why.
     Input(String),
-    /// The program was called wrongly, or a module is wrong. The text says why.
+    /// The call or a module is invalid. The text says why.
     Call(String),
     /// The output cannot be written.
     Output,

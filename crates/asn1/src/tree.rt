@@ -258,7 +258,7 @@ impl<'a> Walk<'a> {
         Ok(next.part)
     }
 
-    /// Prints so many components of rows, those that are present.
+    /// Prints those of `count` components of rows that are present.
     #[cycle(walking)]
     fn components(
         &mut self,

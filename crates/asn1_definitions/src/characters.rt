@@ -41,13 +41,11 @@ pub const NO_CHARACTERS: CharacterSet = CharacterSet {
 
 /// Returns the characters of ASCII from one number to another, as bits.
 fn ascii_between(first: u32, last: u32) -> u128 {
-    let mut found = 0u128;
-    for number in 0..128u8 {
-        if first <= u32::from(number) && u32::from(number) <= last {
-            found |= 1u128 << number;
-        }
+    if last < first || ASCII <= first {
+        return 0;
     }
-    found
+    let unused = 127 - last.min(127);
+    (u128::MAX << first) & (u128::MAX >> unused)
 }
 
 impl CharacterSet {

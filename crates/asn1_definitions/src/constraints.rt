@@ -1,4 +1,4 @@
-//! What the constraints of a type permit, as the packed encoding rules look at them (X.691 10.3).
+//! What the constraints of a type permit, as the packed encoding rules see them (X.691 10.3).
 
 use crate::characters::{CharacterSet, NO_CHARACTERS};
 use crate::names::MAX_STEPS;
@@ -210,6 +210,38 @@ impl<'r> Scope<'r> {
         })
     }
 
+    /// Returns the one element that a constraint, a union or an intersection has, if there is only one, through
+    /// any number of them. Otherwise returns its argument.
+    fn only_element(self, place: Place) -> Place {
+        let mut only = place;
+        for _ in 0..self.most() {
+            match self.item(only) {
+                Item::Constraint | Item::Union | Item::Intersection => {}
+                _ => break,
+            }
+            let first = Place {
+                index: only.index.saturating_add(1),
+                ..only
+            };
+            let is_last = self.entry(first.index).end == self.entry(only.index).end;
+            match self.item(first) {
+                Item::Ellipsis | Item::Except => break,
+                _ if is_last => only = first,
+                _ => break,
+            }
+        }
+        only
+    }
+
+    /// Returns an error at an element if nothing is permitted.
+    fn check_some(self, permitted: &Permitted, place: Place) -> Result<(), NotationError> {
+        if permitted.is_empty() {
+            Err(self.error(Problem::Empty, place))
+        } else {
+            Ok(())
+        }
+    }
+
     /// Returns what an element permits.
     #[cycle(permits)]
     fn of_element(
@@ -279,7 +311,9 @@ impl<'r> Scope<'r> {
             if self.item(part) == Item::Except {
                 continue;
             }
-            let inner = self.of_element(part, role, work, steps)?;
+            let only = self.only_element(part);
+            let inner = self.of_element(only, role, work, steps)?;
+            self.check_some(&inner, only)?;
             found = if is_first {
                 inner
             } else if self.item(place) == Item::Union {
@@ -288,9 +322,7 @@ impl<'r> Scope<'r> {
                 found.and(inner)
             };
             is_first = false;
-            if found.is_empty() {
-                return Err(self.error(Problem::Empty, part));
-            }
+            self.check_some(&found, part)?;
         }
         Ok(found)
     }
@@ -330,11 +362,11 @@ impl<'r> Scope<'r> {
             if self.item(part) != Item::Constraint {
                 continue;
             }
-            let last = self.of_element(part, role, work, steps - 1)?;
+            let only = self.only_element(part);
+            let last = self.of_element(only, role, work, steps - 1)?;
+            self.check_some(&last, only)?;
             found = found.followed_by(last);
-            if found.is_empty() {
-                return Err(self.error(Problem::Empty, part));
-            }
+            self.check_some(&found, part)?;
         }
         Ok(found)
     }

@@ -86,9 +86,22 @@ impl<'r> Scope<'r> {
     /// Returns the numbers that the objects of a set have in a field, as their least and greatest one. `None`
     /// if the type is no field of a set of objects, or no object has the field.
     pub(crate) fn numbers_of_set(self, place: Place) -> Result<Option<Hull>, NotationError> {
-        let Some((of, set)) = self.set_named(place) else {
-            return Ok(None);
-        };
+        match self.set_named(place) {
+            Some((of, set)) => self.numbers_in(place, of, set),
+            None => Ok(None),
+        }
+    }
+
+    /// Returns the numbers that the objects of a set have in a field, for
+    /// [`numbers_of_set`](Scope::numbers_of_set). It is a function of its own since its list of objects takes
+    /// much of the stack.
+    #[inline(never)]
+    fn numbers_in(
+        self,
+        place: Place,
+        of: Place,
+        set: Place,
+    ) -> Result<Option<Hull>, NotationError> {
         let class = self.class_of(of)?;
         let name = self.field_name(place);
         if self.find_in(self.braces_of(set)?, Item::Ellipsis).is_some() {

@@ -40,7 +40,7 @@ pub struct Objects {
     depth: usize,
 }
 
-/// How many objects and parts of sets may still be looked at.
+/// How many objects and parts of sets may still be examined.
 #[derive(Drop)]
 struct Work {
     left: usize,

@@ -8,6 +8,8 @@ mod bits_examples;
 #[cfg(test)]
 mod builder_examples;
 #[cfg(test)]
+mod canonical_examples;
+#[cfg(test)]
 mod defaults_examples;
 #[cfg(test)]
 mod integer_examples;

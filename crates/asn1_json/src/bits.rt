@@ -4,9 +4,6 @@ use asn1_bits::{BitReader, BitStr, to_bitstring};
 use asn1_schema::{Fragments, Span};
 use std::alloc::{AllocError, Global};
 
-/// How many bits a fragment of 65,536 octets has.
-const FRAGMENT: usize = 524_288;
-
 /// Returns the octets of a span of bits, the last one filled with zeros. `None` if the message is
 /// shorter.
 pub(crate) fn octets_of(
@@ -29,30 +26,33 @@ fn append(message: &[u8], span: Span, octets: &mut Vec<u8>) -> Result<bool, Allo
     Ok(true)
 }
 
-/// Returns the octets of a string in fragments (X.691 11.9.3.8). `None` if the message is shorter.
+/// Returns the octets of a string in fragments (X.691 11.9.3.8), of units of `unit` bits, the last octet filled with
+/// zeros. `None` if the message is shorter.
 pub(crate) fn octets_in(
     alloc: Global,
     message: &[u8],
+    unit: usize,
     fragments: Fragments,
 ) -> Result<Option<Vec<u8>>, AllocError> {
     let mut octets = Vec::new(alloc);
-    let mut at = fragments.at;
-    for _ in 0..fragments.whole {
-        let whole = Span {
-            at,
-            count: FRAGMENT,
-        };
-        if !append(message, whole, &mut octets)? {
+    for index in 0..=fragments.whole.saturating_add(1) {
+        let Some(span) = fragments.span(unit, index) else {
             return Ok(None);
-        }
-        at = at.saturating_add(FRAGMENT).saturating_add(8);
-    }
-    for span in [fragments.middle, fragments.last] {
+        };
         if !append(message, span, &mut octets)? {
             return Ok(None);
         }
     }
     Ok(Some(octets))
+}
+
+/// Returns how many bits a string in fragments has, of units of `unit` bits. `None` if they are more than `usize`
+/// counts.
+pub(crate) fn size_in(unit: usize, fragments: Fragments) -> Option<usize> {
+    let whole = unit.checked_mul(65536)?.checked_mul(fragments.whole)?;
+    whole
+        .checked_add(fragments.middle.count)?
+        .checked_add(fragments.last.count)
 }
 
 /// Returns the number whose binary digits are the bits of a span. `None` if the message is shorter,

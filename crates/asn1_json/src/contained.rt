@@ -10,7 +10,7 @@ use std::str;
 /// The most levels of nesting of the component that determines the type of the contents of an open type.
 const KEY_DEPTH: usize = 3;
 
-/// An open type whose contents were found by the components that tell what they are.
+/// An open type whose contents were found by the components that determine them.
 #[derive(Drop)]
 pub(crate) struct FoundOpen {
     /// The node of the open type.
@@ -76,7 +76,7 @@ impl<'a, 's, 't> Maker<'a, 's, 't> {
         }
     }
 
-    /// Returns the items of the components that tell what the contents of an open type are. `None` if one
+    /// Returns the items of the components that determine the contents of an open type. `None` if one
     /// of them is absent.
     fn keys(&self, open: OpenType) -> Result<Option<Vec<usize>>, JsonError<'s>> {
         let mut keys = Vec::new(self.alloc);
@@ -100,7 +100,7 @@ impl<'a, 's, 't> Maker<'a, 's, 't> {
         Some(found)
     }
 
-    /// Returns the node of the type of an open type's contents, by the items of the components that tell
+    /// Returns the node of the type of an open type's contents, by the items of the components that say
     /// it. `None` if no object has their values.
     #[cycle(making)]
     fn contents_by(

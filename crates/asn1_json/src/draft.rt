@@ -172,28 +172,23 @@ impl Draft {
         self.items.truncate(left);
     }
 
-    /// Reorders the parts from an index on: those of each range in the order of `ranges`, and then those
-    /// after the last of them.
+    /// Puts the parts in another order: those of the indexes, as `canonical_order` of `asn1_canonical` returns
+    /// them.
     ///
     /// # Errors
     ///
     /// Returns an error if out of memory. The parts are unchanged then.
-    pub fn reorder(
-        &mut self,
-        alloc: Global,
-        from: usize,
-        ranges: &[(usize, usize)],
-    ) -> Result<(), AllocError> {
-        let mut parts = Vec::from_slice(alloc, self.parts.as_slice().get(..from).unwrap_or(&[]))?;
-        let mut items = Vec::from_slice(alloc, self.items.as_slice().get(..from).unwrap_or(&[]))?;
-        let mut end = from;
-        for (first, last) in ranges {
-            parts.extend_from_slice(self.parts.as_slice().get(*first..*last).unwrap_or(&[]))?;
-            items.extend_from_slice(self.items.as_slice().get(*first..*last).unwrap_or(&[]))?;
-            end = end.max(*last);
+    pub fn reorder(&mut self, alloc: Global, order: &[usize]) -> Result<(), AllocError> {
+        let mut parts = Vec::new(alloc);
+        let mut items = Vec::new(alloc);
+        for index in order {
+            if let Some(part) = self.parts.as_slice().get(*index) {
+                parts.push(*part)?;
+            }
+            if let Some(item) = self.items.as_slice().get(*index) {
+                items.push(*item)?;
+            }
         }
-        parts.extend_from_slice(self.parts.as_slice().get(end..).unwrap_or(&[]))?;
-        items.extend_from_slice(self.items.as_slice().get(end..).unwrap_or(&[]))?;
         self.parts = parts;
         self.items = items;
         Ok(())

@@ -1,6 +1,6 @@
 //! Prints values of one part.
 
-use crate::bits::{number_of, octets_in, octets_of, unsigned_octets_of};
+use crate::bits::{number_of, octets_in, octets_of, size_in, unsigned_octets_of};
 use crate::decimal::decimal_of;
 use crate::hexadecimal::hex_of;
 use crate::identifiers::{dotted_of, relative_of};
@@ -36,13 +36,21 @@ impl<'a> Printer<'a> {
             Part::Enumerated(index) => self.enumeral(node, index),
             Part::UnknownEnumerated(index) => self.unknown_enumeral(index),
             Part::Unknown(_) if matches!(of, Node::Enumerated { .. }) => self.other_enumeral(at),
-            Part::Bits(span) => self.bit_string(of, span),
+            Part::Bits(span) => {
+                let octets = octets_of(self.alloc, self.message, span)?.ok_or(NO_VALUE)?;
+                self.bit_string(of, octets.as_slice(), span.count)
+            }
+            Part::BitsInFragments(fragments) => {
+                let octets = octets_in(self.alloc, self.message, 1, fragments)?.ok_or(NO_VALUE)?;
+                let count = size_in(1, fragments).ok_or(NO_VALUE)?;
+                self.bit_string(of, octets.as_slice(), count)
+            }
             Part::Octets(span) => {
                 let octets = octets_of(self.alloc, self.message, span)?.ok_or(NO_VALUE)?;
                 self.octets(of, octets.as_slice())
             }
             Part::OctetsInFragments(fragments) => {
-                let octets = octets_in(self.alloc, self.message, fragments)?.ok_or(NO_VALUE)?;
+                let octets = octets_in(self.alloc, self.message, 8, fragments)?.ok_or(NO_VALUE)?;
                 self.octets(of, octets.as_slice())
             }
             Part::Text(characters) => {
@@ -117,14 +125,13 @@ impl<'a> Printer<'a> {
         self.end_object()
     }
 
-    /// Prints a BIT STRING: the hexadecimal digits where its size is fixed, otherwise an object that
+    /// Prints a BIT STRING of `count` bits: the hexadecimal digits if its size is fixed, otherwise an object that
     /// also has the number of bits.
-    fn bit_string(&mut self, of: Node, span: Span) -> Result<(), PrintError> {
-        let octets = octets_of(self.alloc, self.message, span)?.ok_or(NO_VALUE)?;
+    fn bit_string(&mut self, of: Node, octets: &[u8], count: usize) -> Result<(), PrintError> {
         if let Some(out) = self.notation() {
-            return Ok(out.bits(octets.as_slice(), span.count)?);
+            return Ok(out.bits(octets, count)?);
         }
-        let digits = hex_of(self.alloc, octets.as_slice())?;
+        let digits = hex_of(self.alloc, octets)?;
         if is_fixed(of) {
             return self.digits(digits.as_str());
         }
@@ -132,7 +139,7 @@ impl<'a> Printer<'a> {
         self.key("value")?;
         self.digits(digits.as_str())?;
         self.key("length")?;
-        self.natural(Natural::Small(span.count as u64))?;
+        self.natural(Natural::Small(count as u64))?;
         self.end_object()
     }
 
@@ -202,7 +209,7 @@ impl<'a> Printer<'a> {
         self.end_alternative()
     }
 
-    /// Prints so many additions that the schema does not know, from a part on.
+    /// Prints `count` additions that the schema does not know, from a part on.
     pub(crate) fn unknown_additions(
         &mut self,
         from: usize,

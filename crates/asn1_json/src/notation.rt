@@ -101,7 +101,7 @@ impl Notation {
         self.text.push_str(" }")
     }
 
-    /// Appends so many bits of octets as a string in single quotes.
+    /// Appends `count` bits of octets as a string in single quotes.
     pub(crate) fn bits(&mut self, octets: &[u8], count: usize) -> Result<(), AllocError> {
         self.text.push('\'')?;
         for index in 0..count {

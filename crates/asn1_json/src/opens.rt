@@ -48,7 +48,10 @@ pub fn octets_of_part(
     match part {
         Part::Octets(span) => octets_of(alloc, message, span),
         Part::Bits(span) if span.count % 8 == 0 => octets_of(alloc, message, span),
-        Part::OctetsInFragments(fragments) => octets_in(alloc, message, fragments),
+        Part::OctetsInFragments(fragments) => octets_in(alloc, message, 8, fragments),
+        Part::BitsInFragments(fragments) if fragments.last.count % 8 == 0 => {
+            octets_in(alloc, message, 1, fragments)
+        }
         _ => Ok(None),
     }
 }
@@ -100,7 +103,7 @@ struct Finder<'a> {
     schema: &'a Schema,
     message: &'a [u8],
     parts: &'a [Part],
-    /// The values around the one that is gone over, from the outermost one on.
+    /// The values around the one that is visited, from the outermost one on.
     around: Vec<Around>,
     found: Vec<OpenValue>,
 }
@@ -210,7 +213,7 @@ impl<'a> Finder<'a> {
         self.components(depth, additions, count, next.saturating_add(1))
     }
 
-    /// Goes over so many components of rows. Those of an addition group are components of the type that the
+    /// Visits `count` components of rows. Those of an addition group are components of the type that the
     /// group is in.
     #[cycle(finding)]
     fn components(
@@ -349,7 +352,7 @@ fn in_groups<'v>(schema: &Schema, value: Value<'v>, name: &str) -> Option<Value<
     )
 }
 
-/// Returns the component with a name that is in one of so many addition groups of rows, whose parts begin at an
+/// Returns the component with a name that is in one of `count` addition groups of rows, whose parts begin at an
 /// index. `None` if there is none.
 fn among_groups<'v>(
     schema: &Schema,

@@ -209,7 +209,7 @@ impl<'a> Printer<'a> {
         Ok(next)
     }
 
-    /// Prints so many components of rows, those that are present.
+    /// Prints `count` components of rows, those that are present.
     #[cycle(printing)]
     fn components(
         &mut self,

@@ -239,7 +239,7 @@ fn is_one(octets: &[u8], index: usize) -> bool {
     }
 }
 
-/// Returns how many bits are left without the zeros at the end, and at least so many.
+/// Returns how many bits are left without the zeros at the end, and at least `least`.
 fn without_zeros(octets: &[u8], count: usize, least: usize) -> usize
     ensures most { result ≤ count }
     ensures least { least ≤ count → least ≤ result }

@@ -73,6 +73,8 @@ fn is_encoded_in_der<'x>(
         },
         parts: built.parts.as_slice(),
         source: built.octets.as_slice(),
+        is_ordered: true,
+        lengths: &[],
     };
     let mut octets = [0u8; 40];
     let encoded = der::encode(&context, 8, node, &mut octets)?;

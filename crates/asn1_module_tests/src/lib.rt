@@ -6,9 +6,13 @@
 #[cfg(test)]
 mod as_json;
 #[cfg(test)]
+mod canonical;
+#[cfg(test)]
 mod defaults;
 #[cfg(test)]
 mod encoded;
+#[cfg(test)]
+mod lengths;
 #[cfg(test)]
 mod notation;
 #[cfg(test)]

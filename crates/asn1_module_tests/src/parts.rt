@@ -66,7 +66,7 @@ const RANGES: [Range; 1] = [Range {
     last: 127,
 }];
 
-/// The members, and their names of one letter each.
+/// Returns the members, and their names of one letter each.
 fn rows_of(alloc: Global) -> Result<(Vec<Member>, Vec<NameSpan>), Fail> {
     let mut members = Vec::new(alloc);
     let mut names = Vec::new(alloc);

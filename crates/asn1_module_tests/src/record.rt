@@ -134,6 +134,8 @@ fn the_record_is_encoded_by_der(rt: HostRuntime) -> Result<(), Fail> {
         },
         parts: record.parts.as_slice(),
         source: record.octets.as_slice(),
+        is_ordered: true,
+        lengths: &[],
     };
     let mut octets = [0u8; 200];
     let encoded = der::encode(&context, 8, node, &mut octets)?;

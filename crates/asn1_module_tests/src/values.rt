@@ -263,7 +263,8 @@ fn values_of_one_part_are_written(rt: HostRuntime) -> Result<(), Fail> {
     Ok(())
 }
 
-/// Returns whether the first fault of tables with so many types and members has a text.
+/// Returns whether the first fault of tables with the first `nodes` types and `members` members has
+/// this text.
 fn has_fault(alloc: Global, nodes: usize, members: usize, expected: &str) -> Result<bool, Fail> {
     let (all_nodes, all_members) = (NODES, MEMBERS);
     let ranges: [Range; 0] = [];

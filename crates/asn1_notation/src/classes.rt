@@ -8,6 +8,10 @@ use crate::word::Word;
 
 impl<'m, 'a> Parser<'m, 'a> {
     /// Reads what follows `::=` in the definition of a class.
+    ///
+    /// # Errors
+    ///
+    /// Returns an error at the first item that is unexpected, unsupported, or nested too deep.
     pub fn class_definition(&mut self) -> Result<(), NotationError> {
         let index = self.begin(Item::Class);
         self.take();
@@ -124,6 +128,10 @@ impl<'m, 'a> Parser<'m, 'a> {
     }
 
     /// Reads the parameters of a definition in braces.
+    ///
+    /// # Errors
+    ///
+    /// Returns an error at the first item that is unexpected, unsupported, or nested too deep.
     pub fn parameters(&mut self) -> Result<(), NotationError> {
         let index = self.begin(Item::Parameters);
         self.expect_symbol(Symbol::OpenBrace)?;
@@ -160,6 +168,10 @@ impl<'m, 'a> Parser<'m, 'a> {
 
     /// Reads a table constraint in braces: a set of objects, and the components that select among them
     /// (X.682 10).
+    ///
+    /// # Errors
+    ///
+    /// Returns an error at the first item that is unexpected.
     pub fn table(&mut self) -> Result<(), NotationError> {
         let index = self.begin(Item::Table);
         self.expect_symbol(Symbol::OpenBrace)?;

@@ -8,6 +8,10 @@ use crate::word::Word;
 
 impl<'m, 'a> Parser<'m, 'a> {
     /// Reads the components of a SEQUENCE or SET, or the alternatives of a CHOICE, in braces.
+    ///
+    /// # Errors
+    ///
+    /// Returns an error at the first item that is unexpected, unsupported, or nested too deep.
     #[cycle(types)]
     pub fn members(&mut self, is_choice: bool, depth: usize) -> Result<(), NotationError> {
         self.expect_symbol(Symbol::OpenBrace)?;

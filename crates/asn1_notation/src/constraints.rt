@@ -91,6 +91,10 @@ impl<'m, 'a> Parser<'m, 'a> {
     }
 
     /// Reads the value after `!`, which may be after its type (X.680 53).
+    ///
+    /// # Errors
+    ///
+    /// Returns an error at the first item that is unexpected or nested too deep.
     pub fn exception(&mut self) -> Result<(), NotationError> {
         if self.accept_symbol(Symbol::Exclamation) {
             self.value(MAX_DEPTH)?;
@@ -99,6 +103,10 @@ impl<'m, 'a> Parser<'m, 'a> {
     }
 
     /// Reads a constraint in parentheses.
+    ///
+    /// # Errors
+    ///
+    /// Returns an error at the first item that is unexpected, unsupported, or nested too deep.
     #[cycle(constraints)]
     pub fn constraint(&mut self, depth: usize) -> Result<(), NotationError> {
         if depth == 0 {
@@ -122,6 +130,10 @@ impl<'m, 'a> Parser<'m, 'a> {
     }
 
     /// Reads an extension marker and the elements after it, if there is one.
+    ///
+    /// # Errors
+    ///
+    /// Returns an error at the first item that is unexpected, unsupported, or nested too deep.
     #[cycle(constraints)]
     pub fn marker(&mut self, depth: usize) -> Result<(), NotationError> {
         if !self.accept_symbol(Symbol::Comma) {
@@ -138,6 +150,10 @@ impl<'m, 'a> Parser<'m, 'a> {
     }
 
     /// Reads a union (X.680 50.1).
+    ///
+    /// # Errors
+    ///
+    /// Returns an error at the first item that is unexpected, unsupported, or nested too deep.
     #[cycle(constraints)]
     pub fn union(&mut self, depth: usize) -> Result<(), NotationError> {
         let index = self.begin(Item::Union);
@@ -234,6 +250,10 @@ impl<'m, 'a> Parser<'m, 'a> {
     }
 
     /// Reads a word and the constraint after it.
+    ///
+    /// # Errors
+    ///
+    /// Returns an error at the first item that is unexpected, unsupported, or nested too deep.
     #[cycle(constraints)]
     pub fn applied(&mut self, item: Item, depth: usize) -> Result<(), NotationError> {
         let index = self.begin(item);

@@ -3,6 +3,7 @@
 ghost use Rattle.std.specs.Prelude.{◌≤◌, ◌<◌, ◌+◌, length, IfOk, IfSome};
 
 use crate::error::Problem;
+use crate::octet_kinds::{OctetKind, is_letter, kind_of};
 use crate::token::{Symbol, Token, TokenKind};
 use crate::word::Word;
 
@@ -19,7 +20,20 @@ pub fn part_of(text: &[u8], from: usize, count: usize) -> &[u8] {
 
 /// Returns the first item at or after an octet of the text. At the end of the text it is `End`.
 pub fn next_token(text: &[u8], from: usize) -> Token {
-    let mut rest = tail(text, from);
+    let rest = tail(text, from);
+    let blank = blank_length(rest);
+    match rest.get(blank) {
+        Some(octet) if kind_of(*octet) == OctetKind::Letter => {
+            let at = text.len().saturating_sub(rest.len()).saturating_add(blank);
+            token_at(&rest[blank..], at)
+        }
+        _ => token_after_gaps(text, rest),
+    }
+}
+
+/// Returns the first item of the end of a text, after white space and comments.
+fn token_after_gaps(text: &[u8], rest: &[u8]) -> Token {
+    let mut rest = rest;
     for _ in 0..rest.len() {
         if rest.is_empty() {
             break;
@@ -93,17 +107,22 @@ fn plain(kind: TokenKind, length: usize) -> Lexeme
     }
 }
 
-fn is_blank(octet: u8) -> bool {
-    octet == b' ' || (9 <= octet && octet <= 13)
+/// Returns how many octets of white space a text begins with, other than NO-BREAK SPACE (X.680 12.1.6).
+#[inline(always)]
+fn blank_length(rest: &[u8]) -> usize
+    ensures { result ≤ length rest.now }
+{
+    for end in 0..rest.len() {
+        if kind_of(rest[end]) != OctetKind::Blank {
+            return end;
+        }
+    }
+    rest.len()
 }
 
 /// Returns whether an octet ends a line (X.680 12.1.6): LF, VT, FF or CR.
 fn is_line_end(octet: u8) -> bool {
     10 <= octet && octet <= 13
-}
-
-fn is_name_octet(octet: u8) -> bool {
-    octet.is_ascii_alphanumeric() || octet == b'-'
 }
 
 /// Returns an octet, or 0 after the last one.
@@ -131,11 +150,7 @@ fn gap_length(rest: &[u8]) -> Result<usize, Problem>
     if octet_at(rest, 0) == 0xC2 && octet_at(rest, 1) == 0xA0 {
         return Ok(2);
     }
-    Ok(
-        rest.iter()
-            .position(|b| !is_blank(*b))
-            .unwrap_or(rest.len()),
-    )
+    Ok(blank_length(rest))
 }
 
 /// Returns the length of a comment from `--` to the next `--` or the end of the line (X.680 12.6.3).
@@ -208,8 +223,11 @@ fn name_length(rest: &[u8]) -> usize
     ensures within { result ≤ length rest.now }
 {
     for end in 1..rest.len() {
-        let is_last = rest[end] == b'-' && !octet_at(rest, end + 1).is_ascii_alphanumeric();
-        if is_last || !is_name_octet(rest[end]) {
+        let kind = kind_of(rest[end]);
+        if kind == OctetKind::Letter {
+            continue;
+        }
+        if kind != OctetKind::Hyphen || !is_letter(octet_at(rest, end + 1)) {
             return end;
         }
     }

@@ -10,6 +10,7 @@ mod constraints;
 mod error;
 mod lexer;
 mod modules;
+mod octet_kinds;
 mod parser;
 mod references;
 mod report;

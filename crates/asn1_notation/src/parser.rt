@@ -10,7 +10,7 @@ use crate::word::Word;
 /// How deep types, values and constraints nest.
 pub const MAX_DEPTH: usize = 100;
 
-/// A parser of a text. It looks at two items.
+/// A parser of a text. It keeps the next two items.
 #[derive(Drop)]
 pub struct Parser<'m, 'a> {
     text: &'a [u8],
@@ -166,6 +166,10 @@ impl<'m, 'a> Parser<'m, 'a> {
     }
 
     /// Takes the next item, which must be of this kind.
+    ///
+    /// # Errors
+    ///
+    /// Returns an error if the next item is another.
     pub fn expect(
         &mut self,
         kind: TokenKind,
@@ -179,6 +183,10 @@ impl<'m, 'a> Parser<'m, 'a> {
     }
 
     /// Takes the next item, which must be this symbol.
+    ///
+    /// # Errors
+    ///
+    /// Returns an error if the next item is another.
     pub fn expect_symbol(&mut self, symbol: Symbol) -> Result<(), NotationError> {
         if self.accept_symbol(symbol) {
             Ok(())
@@ -188,6 +196,10 @@ impl<'m, 'a> Parser<'m, 'a> {
     }
 
     /// Takes the next item, which must be this word.
+    ///
+    /// # Errors
+    ///
+    /// Returns an error if the next item is another.
     pub fn expect_word(&mut self, word: Word) -> Result<(), NotationError> {
         if self.accept_word(word) {
             Ok(())

@@ -50,6 +50,10 @@ fn is_literal(word: Word) -> bool {
 impl<'m, 'a> Parser<'m, 'a> {
     /// Reads what follows a dot: the name of a type, of a value, or of a field. `index` is the entry of
     /// what precedes the dot.
+    ///
+    /// # Errors
+    ///
+    /// Returns an error at the first item that is unexpected.
     pub fn after_dot(&mut self, index: usize) -> Result<(), NotationError> {
         match self.kind() {
             TokenKind::Upper => {
@@ -79,6 +83,10 @@ impl<'m, 'a> Parser<'m, 'a> {
     }
 
     /// Reads `&` and the name of a field.
+    ///
+    /// # Errors
+    ///
+    /// Returns an error at the first item that is unexpected.
     pub fn field_name(&mut self) -> Result<(), NotationError> {
         self.expect_symbol(Symbol::Ampersand)?;
         match self.kind() {
@@ -92,6 +100,10 @@ impl<'m, 'a> Parser<'m, 'a> {
 
     /// Begins what a field of an object is (X.681 15), after the name of the object: further fields are
     /// those of the object that the field before is.
+    ///
+    /// # Errors
+    ///
+    /// Returns an error at the first item that is unexpected.
     pub fn fields_of_object(&mut self, item: Item, name: Token) -> Result<usize, NotationError> {
         let index = self.open(item, None, name);
         for _ in 0..self.left() {
@@ -104,6 +116,10 @@ impl<'m, 'a> Parser<'m, 'a> {
     }
 
     /// Begins TYPE-IDENTIFIER as a class, or one of its fields (X.681 A).
+    ///
+    /// # Errors
+    ///
+    /// Returns an error at the first item that is unexpected.
     pub fn builtin_field(&mut self) -> Result<usize, NotationError> {
         let token = self.take();
         if !self.sees_symbol(Symbol::Dot) {
@@ -116,6 +132,10 @@ impl<'m, 'a> Parser<'m, 'a> {
     }
 
     /// Reads the arguments of a type in braces.
+    ///
+    /// # Errors
+    ///
+    /// Returns an error at the first item that is unexpected, unsupported, or nested too deep.
     #[cycle(types)]
     pub fn arguments(&mut self, depth: usize) -> Result<(), NotationError> {
         let index = self.begin(Item::Arguments);
@@ -150,6 +170,10 @@ impl<'m, 'a> Parser<'m, 'a> {
     }
 
     /// Reads the braces of an object, of a set of objects, or of a value.
+    ///
+    /// # Errors
+    ///
+    /// Returns an error at the first item that is unexpected, unsupported, or nested too deep.
     #[cycle(types)]
     pub fn object_braces(&mut self, depth: usize) -> Result<(), NotationError> {
         self.object_pieces(depth, Item::Braces, Symbol::OpenBrace, Symbol::CloseBrace)

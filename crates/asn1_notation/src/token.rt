@@ -14,7 +14,7 @@ pub enum TokenKind {
     Lower,
     /// A reserved word.
     Word(Word),
-    /// A number without a sign.
+    /// An unsigned number.
     Number,
     /// A number with a fraction.
     Real,

@@ -70,6 +70,10 @@ impl<'m, 'a> Parser<'m, 'a> {
     }
 
     /// Takes the symbol that ends a list.
+    ///
+    /// # Errors
+    ///
+    /// Returns an error if the next item is another.
     pub fn end_of_list(
         &mut self,
         symbol: Symbol,
@@ -100,6 +104,10 @@ impl<'m, 'a> Parser<'m, 'a> {
     }
 
     /// Begins a type that is one word.
+    ///
+    /// # Errors
+    ///
+    /// Returns an error if the word is that of no such type.
     pub fn one_word(&mut self, word: Word) -> Result<usize, NotationError> {
         if !is_plain(word) {
             return Err(self.expected("a type"));
@@ -108,7 +116,7 @@ impl<'m, 'a> Parser<'m, 'a> {
         Ok(self.open(Item::Plain, Some(word), token))
     }
 
-    /// Begins ANY, whose type a component may tell (X.208 27).
+    /// Begins ANY, whose type a component may determine (X.208 27).
     fn any(&mut self) -> Result<usize, NotationError> {
         let token = self.take();
         let index = self.open(Item::Plain, Some(Word::Any), token);
@@ -218,6 +226,10 @@ impl<'m, 'a> Parser<'m, 'a> {
     }
 
     /// Reads a type with its constraints.
+    ///
+    /// # Errors
+    ///
+    /// Returns an error at the first item that is unexpected, unsupported, or nested too deep.
     #[cycle(types)]
     pub fn any_type(&mut self, depth: usize) -> Result<(), NotationError> {
         if depth == 0 {

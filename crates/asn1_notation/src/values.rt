@@ -92,6 +92,10 @@ impl<'m, 'a> Parser<'m, 'a> {
     }
 
     /// Reads a value.
+    ///
+    /// # Errors
+    ///
+    /// Returns an error at the first item that is unexpected or nested too deep.
     #[cycle(values)]
     pub fn value(&mut self, depth: usize) -> Result<(), NotationError> {
         if depth == 0 {
@@ -158,6 +162,10 @@ impl<'m, 'a> Parser<'m, 'a> {
     }
 
     /// Reads a name in braces, which may be followed by a value in parentheses.
+    ///
+    /// # Errors
+    ///
+    /// Returns an error at the first item that is unexpected or nested too deep.
     #[cycle(values)]
     pub fn named_piece(&mut self, depth: usize) -> Result<(), NotationError> {
         let index = self.begin(Item::PieceName);

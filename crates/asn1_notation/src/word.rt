@@ -98,7 +98,7 @@ pub enum Word {
 }
 
 /// The reserved words with their text, in the order of its octets.
-const WORDS: [(&str, Word); 92] = [
+static WORDS: [(&str, Word); 92] = [
     ("ABSENT", Word::Absent),
     ("ALL", Word::All),
     ("ANY", Word::Any),
@@ -193,15 +193,31 @@ const WORDS: [(&str, Word); 92] = [
     ("WITH", Word::With),
 ];
 
+/// For each capital letter, the index of the first word that begins with it or a later one; then how many
+/// words there are.
+static STARTS: [usize; 27] = [
+    0, 5, 10, 17, 24, 33, 35, 38, 38, 48, 48, 48, 48, 51, 54, 60, 66, 66, 69, 76, 83, 89, 91, 92,
+    92, 92, 92,
+];
+
+/// Returns the words that begin with an octet.
+fn words_from(first: u8) -> &'static [(&'static str, Word)] {
+    let letter = first.wrapping_sub(b'A') as usize;
+    if letter >= 26 {
+        return &[];
+    }
+    WORDS.get(STARTS[letter]..STARTS[letter + 1]).unwrap_or(&[])
+}
+
 impl Word {
     /// Returns the word with a text. `None` if the text is no reserved word.
     pub fn of_text(text: &[u8]) -> Option<Word> {
-        if !text.first()?.is_ascii_uppercase() {
-            return None;
+        for (word_text, word) in words_from(*text.first()?) {
+            if word_text.as_bytes() == text {
+                return Some(*word);
+            }
         }
-        let found = WORDS.binary_search_by(|row| row.0.as_bytes().cmp(text));
-        let (_, word) = WORDS.get(found.ok()?)?;
-        Some(*word)
+        None
     }
 
     /// Returns whether the word has no small letters.
@@ -229,7 +245,7 @@ impl Word {
 }
 
 /// The words that a message can ask for, with their text in quotes.
-const QUOTED: [(&str, Word); 15] = [
+static QUOTED: [(&str, Word); 15] = [
     ("`BEGIN`", Word::Begin),
     ("`BY`", Word::By),
     ("`COMPONENTS`", Word::Components),

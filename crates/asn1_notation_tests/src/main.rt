@@ -21,7 +21,7 @@ use std::alloc::Global;
 use std::io::BufReader;
 use std::process::ExitCode;
 
-/// How many types are inside one another in an answer at most.
+/// The greatest depth of types in an answer.
 const DEPTH: usize = 8;
 
 /// Returns the words of a row as one text.

@@ -2,7 +2,7 @@
 //!
 //! A tag is its class and its number: `U` for universal, `A`, `C` and `P`, as `C0`. The tags of a type
 //! are joined by full stops, `-` for none; after them are the numbers of an ENUMERATED, as `#0#5`, and
-//! `@2` or `@4` of a string with so many octets a character, and `+` of ANY. A member has the tags that
+//! `@2` or `@4` of a string with 2 or 4 octets a character, and `+` of ANY. A member has the tags that
 //! it can begin with, joined by `|` and followed by `+` if it can begin with any, and the tags of its
 //! type. After an addition group its components are in parentheses.
 

@@ -117,7 +117,7 @@ fn append_minimal(octets: &mut Vec<u8>, number: u64) -> Result<(), AllocError> {
     Ok(())
 }
 
-/// Appends the contents octets of `mantissa * 2^exponent`, with a sign, in the form of X.690 11.3.1. Returns whether
+/// Appends the contents octets of plus or minus `mantissa * 2^exponent` in the form of X.690 11.3.1. Returns whether
 /// they were appended.
 ///
 /// Zero has no octets. It returns `false` and appends nothing if the exponent of the odd mantissa exceeds three

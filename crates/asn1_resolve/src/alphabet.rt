@@ -77,7 +77,7 @@ pub fn whole_alphabet(word: Word) -> Option<Rows> {
     Some(Rows { from, count })
 }
 
-/// Returns how many octets X.690 gives each character of a type.
+/// Returns how many octets a character of a type has in X.690.
 pub fn character_size(word: Option<Word>) -> CharacterSize {
     match word {
         Some(Word::BmpString) => CharacterSize::Two,

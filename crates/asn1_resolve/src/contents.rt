@@ -113,7 +113,7 @@ impl Schema {
         Ok(())
     }
 
-    /// Appends so many open types and their objects, with the parts of the values by which they are found.
+    /// Appends `count` open types and their objects, with the parts of the values by which they are found.
     pub(crate) fn add_opens(
         &mut self,
         scope: Scope<'_>,

@@ -37,7 +37,7 @@ impl<'r> Types<'r> {
         self.scope.text_of(self.scope.entry(place.index)) == self.text_of(span)
     }
 
-    /// Returns whether a value is a name that its type gives to a number, a bit or a value.
+    /// Returns whether a value is a name that its type assigns to a number, a bit or a value.
     fn is_named(self, of: Place, value: Place) -> bool {
         let name = self.scope.entry(value.index);
         self.scope.named_in(of, Item::Name, name).is_some()
@@ -69,7 +69,7 @@ impl<'r> Types<'r> {
         None
     }
 
-    /// Returns the number that the value of a type is, or that the type gives to this name.
+    /// Returns the number that the value of a type is, or that the type assigns to this name.
     pub(crate) fn number(self, of: Place, value: Place) -> Option<i128> {
         let name = self.scope.entry(value.index);
         match self.scope.named_in(of, Item::Name, name) {

@@ -32,25 +32,24 @@ pub fn resolve(
     tables: &mut Builder<'_>,
 ) -> Result<(), NotationError> {
     let mut lists = [0u32; LISTS];
-    resolve_lists(text, tape, &mut lists, instances, tables)
-}
-
-/// Makes the tables, and the lists of definitions.
-pub(crate) fn resolve_lists(
-    text: &[u8],
-    tape: &mut [Entry],
-    lists: &mut [u32; LISTS],
-    instances: &mut [Instance],
-    tables: &mut Builder<'_>,
-) -> Result<(), NotationError> {
-    index_definitions(text, tape, lists)?;
+    index_definitions(text, tape, &mut lists)?;
     let room = instances.len();
     let mut found = Sink::new(instances);
-    find_instances(text, tape, lists, &mut found)?;
+    find_instances(text, tape, &lists, &mut found)?;
     if room < found.count() {
         return Err(error_at(Problem::TooMuchWork, 0));
     }
-    let instances = found.rows_from(0);
+    resolve_instances(text, tape, &lists, found.rows_from(0), tables)
+}
+
+/// Makes the tables, by the lists of definitions and the instances of parameterized types.
+pub(crate) fn resolve_instances(
+    text: &[u8],
+    tape: &mut [Entry],
+    lists: &[u32; LISTS],
+    instances: &mut [Instance],
+    tables: &mut Builder<'_>,
+) -> Result<(), NotationError> {
     let count = number_types(text, tape, lists, instances)?;
     let scope = Scope {
         text,

@@ -1,4 +1,4 @@
-//! Objects and sets of objects (X.681), and the open types whose contents they tell (X.682 10).
+//! Objects and sets of objects (X.681), and the open types whose contents they determine (X.682 10).
 
 use crate::builder::Builder;
 use crate::open_types::{Governing, MAX_COMPONENTS};
@@ -167,7 +167,7 @@ impl<'m> Builder<'m> {
         Ok(())
     }
 
-    /// Appends the open type of an entry, if other components tell what its contents are.
+    /// Appends the open type of an entry, if other components determine its contents.
     pub(crate) fn add_open(
         &mut self,
         scope: Scope<'_>,

@@ -1,9 +1,9 @@
-//! The components that tell what the contents of an open type are (X.682 10.7 to 10.12).
+//! The components that determine the contents of an open type (X.682 10.7 to 10.12).
 
 use asn1_definitions::{MAX_STEPS, Place, Scope};
 use asn1_notation::{Entry, Item, NotationError, Problem, wide};
 
-/// How many components may tell what the contents of an open type are.
+/// How many components may determine the contents of an open type.
 pub(crate) const MAX_COMPONENTS: usize = 4;
 
 /// How many types a component is looked for in, of those that COMPONENTS OF includes in one.
@@ -76,7 +76,7 @@ fn count_around(scope: Scope<'_>, definition: Place, place: Place) -> Option<usi
     Some(count)
 }
 
-/// Returns the type around an entry in a definition after so many from the outermost one on. `None` if
+/// Returns the type around an entry in a definition after `outer` from the outermost one on. `None` if
 /// there is none.
 fn around(scope: Scope<'_>, definition: Place, place: Place, outer: usize) -> Option<Place> {
     let mut found = definition;
@@ -193,7 +193,7 @@ fn field_of(scope: Scope<'_>, component: Place, path: Place) -> Result<Place, No
 }
 
 /// Returns how many of the types around an entry are outside the one in which a path begins (X.682 10.8):
-/// with dots so many are counted from the innermost one on, and without them it is the outermost one, or
+/// with dots as many are counted from the innermost one on, and without them it is the outermost one, or
 /// for a CHOICE without an alternative of this name the next one.
 fn outer_of(
     scope: Scope<'_>,
@@ -228,7 +228,7 @@ fn outer_of(
     None
 }
 
-/// Returns the component that a path leads to from an open type in a definition, with so many types around
+/// Returns the component that a path leads to from an open type in a definition, with `count` types around
 /// it. `None` if the type of the component is a field of a field.
 fn row_of(
     scope: Scope<'_>,
@@ -319,7 +319,7 @@ impl Governing {
         }))
     }
 
-    /// Returns the component after so many others. `None` if there is none.
+    /// Returns the component at an index. `None` if there is none.
     pub(crate) fn path(self, index: usize) -> Option<PathRow> {
         self.paths.get(index).copied().flatten()
     }

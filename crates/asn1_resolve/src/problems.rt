@@ -2,6 +2,7 @@
 
 use crate::built_in::{refer_to_associated_types, with_associated_types};
 use crate::error::SchemaError;
+use crate::room::OCTETS_OF_ENTRY;
 use crate::schema::Schema;
 use asn1_notation::{Entry, Item, NO_ENTRY, NotationError, Problem, narrow, parse_all, wide};
 use std::alloc::{AllocError, AllocFailed, Global};
@@ -26,20 +27,22 @@ const NO_PROBLEM: NotationError = NotationError {
 ///
 /// Returns an error if out of memory.
 pub fn problems_of(alloc: Global, text: &str) -> Result<Vec<NotationError>, AllocError> {
-    let from = text.len();
     let whole = with_associated_types(alloc, text)?;
     let mut found: Vec<NotationError> = Vec::new(alloc);
     found.resize(MAX_PROBLEMS, NO_PROBLEM)?;
-    let own = parse_all(text.as_bytes(), &mut [], found.as_mut_slice());
-    found.truncate(own.errors);
-    // A module without END would go on in the definitions of the associated types.
-    let counts = parse_all(whole.as_str().as_bytes(), &mut [], &mut []);
-    let text = if counts.errors == own.errors {
-        whole.as_str()
-    } else {
-        text
-    };
-    let mut tape = all_entries(alloc, text)?;
+    let (mut tape, errors) = entries_of(alloc, text, found.as_mut_slice())?;
+    found.truncate(errors);
+    let from = text.len();
+    let mut is_whole = false;
+    if from < whole.len() {
+        // A module without END would go on in the definitions of the associated types.
+        let (all, all_errors) = entries_of(alloc, whole.as_str(), &mut [])?;
+        if all_errors == errors {
+            tape = all;
+            is_whole = true;
+        }
+    }
+    let text = if is_whole { whole.as_str() } else { text };
     refer_to_associated_types(tape.as_mut_slice(), from);
     for _ in 0..MAX_ROUNDS {
         match Schema::of_entries(alloc, text, &mut tape) {
@@ -56,13 +59,22 @@ pub fn problems_of(alloc: Global, text: &str) -> Result<Vec<NotationError>, Allo
     Ok(found)
 }
 
-/// Returns the entries of a text, also where it has errors.
-fn all_entries(alloc: Global, text: &str) -> Result<Vec<Entry>, AllocError> {
+/// Returns the entries of a text, also where it has errors, and how many errors it has. The first errors are stored, as
+/// many as there is room for. The text is read once, and a second time if it has more entries than the first room holds.
+fn entries_of(
+    alloc: Global,
+    text: &str,
+    errors: &mut [NotationError],
+) -> Result<(Vec<Entry>, usize), AllocError> {
     let mut tape: Vec<Entry> = Vec::new(alloc);
-    let counts = parse_all(text.as_bytes(), &mut [], &mut []);
-    tape.resize(counts.entries, NO_ENTRY)?;
-    parse_all(text.as_bytes(), tape.as_mut_slice(), &mut []);
-    Ok(tape)
+    tape.resize(text.len() / OCTETS_OF_ENTRY, NO_ENTRY)?;
+    let counts = parse_all(text.as_bytes(), tape.as_mut_slice(), errors);
+    if tape.len() < counts.entries {
+        tape.resize(counts.entries, NO_ENTRY)?;
+        parse_all(text.as_bytes(), tape.as_mut_slice(), &mut []);
+    }
+    tape.truncate(counts.entries);
+    Ok((tape, counts.errors))
 }
 
 /// Adds a problem, unless it is that of another definition. Returns whether there is room for more.

@@ -20,7 +20,7 @@ fn special(word: Option<Word>) -> Option<u8> {
     }
 }
 
-/// Returns the number after a name in braces, and takes the comma after it. `None` if it is not there.
+/// Returns the number after a name in braces, and takes the comma after it. `None` if it is absent.
 fn component(types: Types<'_>, pieces: &mut Pieces, name: &[u8]) -> Option<i128> {
     let piece = pieces.next(types)?;
     if types.scope.text_of(types.scope.entry(piece.index)) != name {

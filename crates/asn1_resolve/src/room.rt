@@ -6,7 +6,7 @@ use crate::error::SchemaError;
 use crate::objects::{ObjectRow, OpenRow};
 use crate::open_types::PathRow;
 use asn1_definitions::{Instance, LISTS, NO_INSTANCE, Place, find_instances, index_definitions};
-use asn1_notation::{Entry, Item, NO_ENTRY, Sink, parse, wide};
+use asn1_notation::{Entry, Item, NO_ENTRY, Problem, Sink, error_at, parse, wide};
 use asn1_schema::Range;
 use std::alloc::Global;
 
@@ -162,7 +162,7 @@ impl Counts {
         }
     }
 
-    /// Returns whether so many rows fit in room for others.
+    /// Returns whether these numbers of rows fit in room for others.
     pub(crate) fn fit(self, room: Counts) -> bool {
         self.nodes <= room.nodes
             && self.members <= room.members
@@ -182,7 +182,7 @@ impl Counts {
 }
 
 /// How many octets of a text there are at least for an entry in most modules.
-const OCTETS_OF_ENTRY: usize = 4;
+pub(crate) const OCTETS_OF_ENTRY: usize = 4;
 
 /// Returns the entries of a text. The text is read once, and a second time if it has more entries than the
 /// first room holds.
@@ -198,14 +198,14 @@ pub(crate) fn tape_of(alloc: Global, text: &[u8]) -> Result<Vec<Entry>, SchemaEr
     Ok(tape)
 }
 
-/// Returns room for the instances of the parameterized types of a text.
+/// Puts the definitions of a text in lists, and returns the instances of its parameterized types.
 pub(crate) fn instances_of(
     alloc: Global,
     text: &[u8],
     tape: &mut [Entry],
+    lists: &mut [u32; LISTS],
 ) -> Result<Vec<Instance>, SchemaError> {
-    let mut lists = [0u32; LISTS];
-    index_definitions(text, tape, &mut lists)?;
+    index_definitions(text, tape, lists)?;
     let mut instances: Vec<Instance> = Vec::new(alloc);
     let mut room = 1usize;
     for entry in tape.iter() {
@@ -217,13 +217,13 @@ pub(crate) fn instances_of(
     for _ in 0..ROUNDS {
         instances.resize(room, NO_INSTANCE)?;
         let mut found = Sink::new(instances.as_mut_slice());
-        find_instances(text, tape, &lists, &mut found)?;
+        find_instances(text, tape, lists, &mut found)?;
         let count = found.count();
         if count <= room {
             instances.truncate(count);
-            break;
+            return Ok(instances);
         }
         room = count.saturating_mul(2);
     }
-    Ok(instances)
+    Err(error_at(Problem::TooMuchWork, 0).into())
 }

@@ -6,7 +6,7 @@ use crate::builder;
 use crate::builder::{Builder, DefaultText, Enumeral, NO_MEMBER, NO_NAME, NO_ROWS, NamedType};
 use crate::built_in::{refer_to_associated_types, with_associated_types};
 use crate::error::SchemaError;
-use crate::modules::resolve_lists;
+use crate::modules::resolve_instances;
 use crate::open::{OpenObject, OpenPath, OpenType};
 use crate::room::{Counts, NO_DEFAULT, NO_ENUMERAL, NO_RANGE, NO_TYPE, instances_of, tape_of};
 use crate::tag_tables::{NO_FIRST_TAGS, NO_TAG, NO_TYPE_TAGS};
@@ -133,16 +133,17 @@ impl Schema {
         tape: &mut Vec<Entry>,
     ) -> Result<Schema, SchemaError> {
         let octets = text.as_bytes();
-        let mut instances = instances_of(alloc, octets, tape.as_mut_slice())?;
+        let mut lists = [0u32; LISTS];
+        let mut instances = instances_of(alloc, octets, tape.as_mut_slice(), &mut lists)?;
         let guess = Counts::guess(tape.as_slice(), instances.as_slice());
         let mut schema = Schema::with_room(alloc, text, guess)?;
         let mut room = Workroom::new(alloc, guess)?;
         let tape = tape.as_mut_slice();
-        let mut counts = schema.fill(&mut room, octets, tape, instances.as_mut_slice())?;
+        let mut counts = schema.fill(&mut room, octets, tape, &lists, instances.as_mut_slice())?;
         if !counts.fit(guess) {
             schema = Schema::with_room(alloc, text, counts)?;
             room = Workroom::new(alloc, counts)?;
-            counts = schema.fill(&mut room, octets, tape, instances.as_mut_slice())?;
+            counts = schema.fill(&mut room, octets, tape, &lists, instances.as_mut_slice())?;
         }
         schema.keep(counts);
         schema.finish_tags(
@@ -154,7 +155,7 @@ impl Schema {
         let scope = Scope {
             text: octets,
             tape,
-            lists: &room.lists,
+            lists: &lists,
             instances: instances.as_slice(),
         };
         let mut values = Values::new(alloc);
@@ -174,6 +175,7 @@ impl Schema {
         room: &mut Workroom,
         text: &[u8],
         tape: &mut [Entry],
+        lists: &[u32; LISTS],
         instances: &mut [Instance],
     ) -> Result<Counts, NotationError> {
         let tables = Builder::new(
@@ -202,8 +204,7 @@ impl Schema {
             room.paths.as_mut_slice(),
             room.objects.as_mut_slice(),
         );
-        room.lists = [0u32; LISTS];
-        resolve_lists(text, tape, &mut room.lists, instances, &mut tables)?;
+        resolve_instances(text, tape, lists, instances, &mut tables)?;
         Ok(Counts::of(&tables))
     }
 

@@ -146,7 +146,7 @@ impl<'m> Builder<'m> {
         })
     }
 
-    /// Sets the tags of a node, and what else X.690 asks of it.
+    /// Sets the tags of a node, and what else X.690 requires of it.
     fn set_tags(
         &mut self,
         scope: Scope<'_>,

@@ -1,18 +1,16 @@
-//! What is needed to make the tables of a schema, beside the tables.
+//! What is needed to make the tables of a schema, besides the tables.
 
 use crate::builder::{Draft, Key, NO_DRAFT, NO_KEY};
 use crate::objects::{ObjectRow, OpenRow};
 use crate::open_types::PathRow;
 use crate::room::{Counts, NO_OBJECT, NO_OPEN, NO_PATH};
 use crate::tag_tables::NO_TAG;
-use asn1_definitions::LISTS;
 use asn1_x690::Tag;
 use std::alloc::{AllocError, Global};
 
 /// Rows from which tables are made.
 #[derive(Drop)]
 pub(crate) struct Workroom {
-    pub(crate) lists: [u32; LISTS],
     pub(crate) drafts: Vec<Draft>,
     pub(crate) tags: Vec<Key>,
     pub(crate) names: Vec<Key>,
@@ -24,14 +22,13 @@ pub(crate) struct Workroom {
 }
 
 impl Workroom {
-    /// Makes rows, so many of each.
+    /// Makes rows, of each kind as many as `counts` says.
     ///
     /// # Errors
     ///
     /// Returns an error if out of memory.
     pub(crate) fn new(alloc: Global, counts: Counts) -> Result<Workroom, AllocError> {
         let mut room = Workroom {
-            lists: [0u32; LISTS],
             drafts: Vec::new(alloc),
             tags: Vec::new(alloc),
             names: Vec::new(alloc),
