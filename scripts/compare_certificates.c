@@ -3,10 +3,10 @@
  *
  * usage: compare_certificates MODULE FILE ROUNDS
  *
- * MODULE has the types. FILE holds certificates in DER, each after its length in four octets, the highest first. The readers read all of them
- * in turn, as many times as ROUNDS says, and the fastest time of each is printed: nanoseconds a certificate. With ROUNDS 0
- * OpenSSL alone reads each once, with -1 decode alone and with -2 the Rust crate alone, so that a counter of instructions
- * sees one of them. */
+ * MODULE has the types. FILE has certificates in DER, each after its length in four octets, most significant first. The
+ * readers read all of them in turn, ROUNDS times, and the fastest time of each is printed: nanoseconds per certificate.
+ * With ROUNDS 0 OpenSSL alone reads each once, with -1 decode alone and with -2 the Rust crate alone, for a counter of
+ * instructions. */
 #include <openssl/x509.h>
 #include <stdbool.h>
 #include <stdio.h>

@@ -1,5 +1,4 @@
-//! A certificate of RFC 5280, read by the crate `asn1`: every part that `certificate_format` reads, down to the
-//! elements that it keeps as they are.
+//! Reads a certificate of RFC 5280 by the crate `asn1`.
 
 #![allow(dead_code)]
 
@@ -71,11 +70,11 @@ struct Certificate<'a> {
     signature: BitString<'a>,
 }
 
-/// Whether the octets are a certificate.
+/// Returns whether the octets are a certificate.
 ///
 /// # Safety
 ///
-/// So many octets can be read there.
+/// `octets` must be valid for reads of `count` octets.
 #[no_mangle]
 pub unsafe extern "C" fn read_by_asn1(octets: *const u8, count: usize) -> bool {
     let octets = unsafe { std::slice::from_raw_parts(octets, count) };

@@ -8,7 +8,7 @@ extern void *__libc_realloc(void *old, unsigned long size);
 
 static const char told[] = "allocation failed\n";
 
-/* Counts this call, and says whether it is the one to fail. */
+/* Counts this call. Returns whether it must fail. */
 static int is_to_fail(void) {
     static unsigned long asked;
     const char *digits = getenv("FAIL");

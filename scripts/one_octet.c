@@ -1,4 +1,4 @@
-/* Has each read and each write take one octet at the most. It is loaded before the C library (LD_PRELOAD). */
+/* Lets each read and each write take at most one octet. It is loaded before the C library (LD_PRELOAD). */
 
 extern long __read(int file, void *octets, unsigned long count);
 extern long __write(int file, const void *octets, unsigned long count);

@@ -1,12 +1,12 @@
-/* Reads certificates (X.509, RFC 5280) in DER, and prints what is in them: serial number, signature algorithm, names
- * and validity. All octets are looked at by the functions of asn1_values.h alone.
+/* Reads certificates (X.509, RFC 5280) in DER, and prints their serial number, signature algorithm, names and validity.
+ * Only functions of asn1_values.h read the octets.
  *
  * usage: certificate <CERTIFICATE
  *        certificate many <CERTIFICATES
  *
- * With `many` each certificate is after its length in four octets, the highest first, and a line `end` after the
- * lines of each. Octets that are rejected have one line, with the code. The octets of a certificate lie before
- * a page that may not be read, so that a read after them ends the program. */
+ * With `many` each certificate follows its length in four octets, most significant first, and a line `end` follows the
+ * lines of each. For rejected octets one line with the code is printed. A page that must not be read follows the octets
+ * of a certificate, so a read after them ends the program. */
 #define _DEFAULT_SOURCE
 #include "asn1_values.h"
 
@@ -16,15 +16,15 @@
 #include <sys/mman.h>
 #include <unistd.h>
 
-/* Octets up to an end, and how far they are read. */
+/* Octets up to an end, and the index of the next one. */
 typedef struct reader {
     const uint8_t *octets;
     size_t at;
     size_t end;
 } reader;
 
-/* What is instead of a code of asn1_values.h. */
-#define OTHER_TAG UINT32_C(100)   /* an element has another tag than stands there in a certificate */
+/* Codes besides those of asn1_values.h. */
+#define OTHER_TAG UINT32_C(100)   /* an element has another tag than in a certificate */
 #define MORE UINT32_C(101)        /* there is more after the last element */
 
 /* Numbers of universal tags. */
@@ -42,7 +42,7 @@ static bool has_tag(const asn1v_element *element, bool constructed, uint64_t num
     return element->class_number == 0 && element->constructed == constructed && element->number == number;
 }
 
-/* The next element, which is universal and has the tag. */
+/* Reads the next element, which must be universal and have the tag. */
 static asn1v_code expect(reader *in, bool constructed, uint64_t number, asn1v_element *element)
 {
     const asn1v_code code = next(in, element);
@@ -56,7 +56,7 @@ static reader inside(const reader *in, const asn1v_element *element)
     return contents;
 }
 
-/* The contents of the next element, which is a SEQUENCE or a SET. */
+/* Reads the header of the next element, a SEQUENCE or a SET, and returns its contents. */
 static asn1v_code enter(reader *in, uint64_t number, reader *contents)
 {
     asn1v_element element;
@@ -105,7 +105,7 @@ static asn1v_code print_identifier(reader *in, const char *word)
     return code;
 }
 
-/* An AlgorithmIdentifier: an identifier, and what is not looked into. */
+/* Prints an AlgorithmIdentifier: an identifier, and parameters, which are not examined. */
 static asn1v_code print_algorithm(reader *in, const char *word)
 {
     reader algorithm;
@@ -127,7 +127,7 @@ static void print_text(const uint8_t *text, size_t count)
     }
 }
 
-/* Octets that are no text of Unicode. */
+/* Prints octets that are not text. */
 static void print_octets(const uint8_t *octets, size_t count)
 {
     putchar('#');
@@ -160,7 +160,7 @@ static bool is_string(uint64_t number, asn1v_kind *kind)
     }
 }
 
-/* Whether the octets are UTF-8: that is looked at first. */
+/* Returns whether the octets are UTF-8. */
 static bool is_utf8(const uint8_t *text, size_t count)
 {
     size_t octets = 0, place = 0;
@@ -194,7 +194,7 @@ static asn1v_code print_value(const uint8_t *octets, const asn1v_element *value)
     return code;
 }
 
-/* AttributeTypeAndValue: an identifier, and any value. */
+/* Prints an AttributeTypeAndValue: an identifier, and any value. */
 static asn1v_code print_attribute(reader *set, const char *word)
 {
     reader attribute;
@@ -241,7 +241,7 @@ static asn1v_code print_time(reader *in, const char *word)
     return code;
 }
 
-/* What is signed: a version or none, and the rest in order; what is after the subject is elements. */
+/* Prints the signed part: an optional version, and the rest in order. After the subject any elements may follow. */
 static asn1v_code print_signed(reader *in)
 {
     reader body;
@@ -280,7 +280,7 @@ static asn1v_code print_certificate(const uint8_t *octets, size_t count)
     return code == ASN1V_DONE && (certificate.at != certificate.end || all.at != all.end) ? MORE : code;
 }
 
-/* The octets, before a page that may not be read. */
+/* Prints a certificate from octets that end before a page that must not be read. */
 static asn1v_code print_guarded(const uint8_t *octets, size_t count)
 {
     const size_t page = (size_t)sysconf(_SC_PAGESIZE);
@@ -292,7 +292,7 @@ static asn1v_code print_guarded(const uint8_t *octets, size_t count)
     memcpy(copy, octets, count);
     const asn1v_code code = print_certificate(copy, count);
     munmap(pages, whole + page);
-    if (code != ASN1V_DONE) printf("refused by code %u\n", code);
+    if (code != ASN1V_DONE) printf("rejected with code %u\n", code);
     return code;
 }
 

@@ -1,27 +1,27 @@
 /* Reads a certificate (X.509, RFC 5280) in DER as fields, and writes these fields again, at bit 0 and at bit 3 of other
- * octets. A certificate has fields of all seven kinds: identifier octets and contents that are not looked into are
- * octets, an INTEGER is one after its length octet or by its octets, a BOOLEAN is a number, the contents of a BIT
+ * octets. A certificate has fields of all seven kinds: identifier octets and contents that are not examined are octets,
+ * an INTEGER is a counted integer or an integer, a BOOLEAN is a number, the contents of a BIT
  * STRING are a number and bits, an OBJECT IDENTIFIER is one by its contents, and each character of a string of one
  * octet a character is one by its code.
  *
  * usage: certificate_fields <CERTIFICATE
  *        certificate_fields many <CERTIFICATES
  *
- * With `many` each certificate is after its length in four octets, the highest first. For each there is one line:
- * how many fields it has, or the code of the first that is wrong. */
+ * With `many` each certificate follows its length in four octets, most significant first. For each one line is printed:
+ * how many fields it has, or the code of the first invalid one. */
 #include "asn1_values.h"
 
 #include <stdio.h>
 #include <stdlib.h>
 #include <string.h>
 
-/* Instead of a code of asn1_values.h: the octets that were written are not those that were read. */
+/* A code besides those of asn1_values.h: the octets that were written are not those that were read. */
 #define OTHER_OCTETS UINT32_C(102)
 
-/* Elements within elements, to this depth; the contents of deeper ones are octets. */
+/* The depth of elements within elements. The contents of deeper ones are octets. */
 #define DEPTH 64
 
-/* The places of the alphabets, and how many there are. */
+/* The indices of the alphabets, and their number. */
 enum { IA5, PRINTABLE, VISIBLE, ALPHABETS };
 
 /* Numbers of universal tags. */
@@ -89,7 +89,7 @@ static void add_primitive(shapes *all, size_t first, const asn1v_element *elemen
     }
 }
 
-/* The shapes of the fields of all elements, from the outside in. */
+/* Adds the shapes of the fields of all elements, from the outermost on. */
 static asn1v_code shapes_of(const uint8_t *octets, size_t count, shapes *all)
 {
     size_t ends[DEPTH] = {count}, depth = 1, at = 0;
@@ -117,7 +117,7 @@ static asn1v_code prepare(asn1v_alphabet *alphabets)
 {
     static const asn1v_kind kinds[ALPHABETS] = {ASN1V_IA5_STRING, ASN1V_PRINTABLE_STRING, ASN1V_VISIBLE_STRING};
     for (size_t i = 0; i < ALPHABETS; i++) {
-        /* Codes of whole octets: aligned, each of these characters is its own code. */
+        /* Codes are whole octets: in an aligned alphabet each of these characters is its own code. */
         const asn1v_code code = asn1v_alphabet_new(kinds[i], false, NULL, 0, true, &alphabets[i]);
         if (code != ASN1V_DONE) return code;
     }
@@ -140,7 +140,7 @@ static asn1v_code copy_fields(const shapes *all, const asn1v_alphabet *alphabets
     return code;
 }
 
-/* Octets, at bit 3 of others, and octets again. */
+/* Copies the fields to bit 3 of other octets, and back. */
 static asn1v_code there_and_back(const uint8_t *octets, size_t count, const shapes *all)
 {
     asn1v_alphabet alphabets[ALPHABETS];
@@ -162,7 +162,7 @@ static asn1v_code tell(const uint8_t *octets, size_t count)
     if (code == ASN1V_DONE)
         printf("%zu fields\n", all.count);
     else
-        printf("refused by code %u\n", code);
+        printf("rejected with code %u\n", code);
     free(all.at);
     return code;
 }

@@ -1,5 +1,5 @@
-// The header from C++: a message of two fields is written, read back, and rejected where it is cut short. The program
-// ends with 0 where all is right.
+// The header from C++: a message of two fields is written, read back, and rejected after it was cut short. The exit
+// status is 0 if all is right.
 #include "asn1_values.h"
 
 #include <array>

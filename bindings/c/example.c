@@ -1,5 +1,5 @@
-/* A few values written, read and rejected through the C functions. Each line that is printed is compared with what is
- * known of the value; the program ends with 0 where all are right. */
+/* A few values written, read and rejected by the C functions. Each printed line says whether a value is the expected
+ * one. The exit status is 0 if all are right. */
 #include <stdio.h>
 #include <string.h>
 
@@ -37,7 +37,7 @@ static void bits(void)
 
     uint8_t numbers[2] = {0x80, 0};
     const asn1v_words five = {0, 5};
-    expect("a number is placed behind a bit",
+    expect("a number is placed after a bit",
            asn1v_or_number(numbers, 2, 1, &five, 3) == ASN1V_DONE && numbers[0] == 0xD0 && numbers[1] == 0);
     expect("in two bits it does not fit",
            asn1v_or_number(numbers, 2, 4, &five, 2) == ASN1V_OVERFLOW && numbers[0] == 0xD0);
@@ -45,9 +45,9 @@ static void bits(void)
 
     uint64_t value = 7;
     expect("a number at bit 3", asn1v_read_u64(message, 2, 3, 8, &value) == ASN1V_DONE && value == 0xA5);
-    expect("a number past the end is refused, and the value stays",
+    expect("a number past the end is rejected, and the value is unchanged",
            asn1v_read_u64(message, 2, 12, 8, &value) == ASN1V_OUTSIDE && value == 0xA5);
-    expect("a width over 64 is refused", asn1v_read_u64(message, 2, 0, 65, &value) == ASN1V_WIDTH);
+    expect("a width over 64 is rejected", asn1v_read_u64(message, 2, 0, 65, &value) == ASN1V_WIDTH);
 
     const uint8_t wide[17] = {0x0F, 0xFF, 0, 0, 0, 0, 0, 0, 0, 0, 0, 0, 0, 0, 0, 0, 0x10};
     asn1v_words words = {0, 0};
@@ -96,7 +96,7 @@ static void wide_integers(void)
     size_t count = 0;
     uint64_t number = 0;
     const uint8_t large[9] = {0x00, 0x80, 0, 0, 0, 0, 0, 0, 0};
-    expect("2 to the power of 63 without a sign",
+    expect("2 to the power of 63, unsigned",
            asn1v_integer_to_u64(large, sizeof large, &number) == ASN1V_DONE && number == UINT64_C(1) << 63);
     expect("has nine octets", asn1v_integer_from_u64(number, room, sizeof room, &count) == ASN1V_DONE && count == 9 &&
                                   memcmp(room, large, 9) == 0);
@@ -109,7 +109,7 @@ static void wide_integers(void)
                                                words.high == UINT64_C(1) << 63 && words.low == 0);
     expect("has sixteen octets", asn1v_integer_from_i128(&words, room, sizeof room, &count) == ASN1V_DONE &&
                                      count == 16 && memcmp(room, least, 16) == 0);
-    expect("without a sign the same words have seventeen",
+    expect("the same words, unsigned, have seventeen",
            asn1v_integer_from_u128(&words, room, sizeof room, &count) == ASN1V_DONE && count == 17 && room[0] == 0);
     asn1v_words back = {0, 0};
     expect("which are read back", asn1v_integer_to_u128(room, 17, &back) == ASN1V_DONE && back.high == words.high);
@@ -142,7 +142,7 @@ static void wide_integers(void)
            asn1v_integer_from_text((const uint8_t *)"340282366920938463463374607431768211455", 39, room, sizeof room,
                                    &count) == ASN1V_DONE &&
                count == 17 && room[0] == 0 && room[16] == 0xFF);
-    expect("a zero in front is refused",
+    expect("a leading zero is rejected",
            asn1v_integer_from_text((const uint8_t *)"01", 2, room, sizeof room, &count) == ASN1V_DECIMAL);
     expect("and so is -0",
            asn1v_integer_from_text((const uint8_t *)"-0", 2, room, sizeof room, &count) == ASN1V_DECIMAL);
@@ -162,7 +162,7 @@ static void elements(void)
                              outer.end == 214);
     expect("holds others", asn1v_der_next(octets, outer.end, outer.first, &inner) == ASN1V_DONE && inner.number == 1 &&
                                inner.first == 5 && inner.length == 1 && inner.end == 6);
-    expect("a truth value", asn1v_der_boolean(octets + inner.first, inner.length, &value) == ASN1V_DONE && value);
+    expect("a Boolean", asn1v_der_boolean(octets + inner.first, inner.length, &value) == ASN1V_DONE && value);
     expect("then one of a context", asn1v_der_next(octets, outer.end, inner.end, &inner) == ASN1V_DONE &&
                                         inner.class_number == 2 && !inner.constructed && inner.number == 31 &&
                                         inner.length == 200);
@@ -197,7 +197,7 @@ static void elements(void)
     expect("eight unused bits", asn1v_der_bit_string(wrong[0], 2, &count) == ASN1V_CONTENTS && count == 4);
     expect("unused bits that are not zero", asn1v_der_bit_string(wrong[1], 2, &count) == ASN1V_CONTENTS);
     expect("no octet", asn1v_der_bit_string(wrong[1], 0, &count) == ASN1V_CONTENTS);
-    expect("01 is no truth value", asn1v_der_boolean(wrong[2], 1, &value) == ASN1V_CONTENTS && value);
+    expect("01 is no Boolean", asn1v_der_boolean(wrong[2], 1, &value) == ASN1V_CONTENTS && value);
     expect("nor are two octets", asn1v_der_boolean(wrong[2], 2, &value) == ASN1V_CONTENTS);
 }
 
@@ -279,7 +279,7 @@ static void dotted_text(void)
     expect("3 is no identifier", asn1v_oid_text(none, 1, text, sizeof text, &count) == ASN1V_ARCS && is_no_text("3"));
     expect("arcs are decimals without a leading zero or a sign",
            is_no_text("2.01") && is_no_text("2.+1") && is_no_text("2.-1") && is_no_text("2. 1"));
-    expect("a full stop stands between two arcs",
+    expect("a full stop is between two arcs",
            is_no_text("") && is_no_text(".") && is_no_text("2.") && is_no_text(".2") && is_no_text("2..1"));
     expect("an arc fits 32 bits, and 1.40 is no identifier", is_no_text("2.4294967296") && is_no_text("1.40"));
 }

@@ -1,13 +1,13 @@
-/* What the files of the example in C share. */
+/* Declarations that the files of the example in C share. */
 #ifndef ASN1V_EXAMPLE_H
 #define ASN1V_EXAMPLE_H
 
 #include <stdbool.h>
 
-/* Prints what is said of a value, and whether it is right; where it is not, the example fails. */
+/* Prints what a line is about, and whether it is right. If it is not, the example fails. */
 void expect(const char *what, bool right);
 
-/* Fields of all seven kinds: read, written and rejected. */
+/* Reads, writes and rejects fields of all seven kinds. */
 void example_of_fields(void);
 
 #endif

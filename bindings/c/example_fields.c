@@ -4,7 +4,7 @@
 #include "asn1_values.h"
 #include "example.h"
 
-/* A pointer is never null, also to no alphabets. */
+/* No alphabets: the pointer to them must not be null either. */
 static const asn1v_alphabet NO_ALPHABETS[1];
 
 static void fields(void)
@@ -38,7 +38,7 @@ static void fields(void)
                                                                  read, 2, &end, &refusal) == ASN1V_ROOM);
 }
 
-/* How the only field of a kind is rejected, and that nothing has changed. */
+/* Checks how the only field of a kind is rejected, and that nothing has changed. */
 static asn1v_code refused(asn1v_shape shape, asn1v_field field)
 {
     const uint8_t source[2] = {0xFF, 0xFF};
@@ -74,7 +74,7 @@ static void written_fields(void)
            code == ASN1V_DONE && end == 28 && memcmp(target, "\xFB\x4B\x79\xFF", 4) == 0);
 
     expect("no field of an unknown kind", refused((asn1v_shape){7, 1}, (asn1v_field){0, 1, 0, 0}) == ASN1V_SHAPE);
-    expect("no character of an alphabet that is not there",
+    expect("no character of an alphabet that is missing",
            refused((asn1v_shape){ASN1V_CHARACTER_FIELD, 0}, (asn1v_field){0, 0, 0, 'a'}) == ASN1V_SHAPE);
     expect("no integer of one octet for 128",
            refused((asn1v_shape){ASN1V_INTEGER, 1}, (asn1v_field){0, 0, 0, 128}) == ASN1V_LENGTH);
@@ -93,8 +93,8 @@ static void written_fields(void)
     expect("each field has a shape", code == ASN1V_COUNT && end == 28);
 }
 
-/* One message of all seven kinds from bit 1 on, and what is read of it: 5 in three bits, the octet A5, two bits 10, the
- * integer -129 in two octets, 128 after the octet that counts it, b of the letters a and b, and 2.100.3. */
+/* Checks a message of all seven kinds from bit 1 on, and the fields that are read: 5 in three bits, the octet A5, two
+ * bits 10, the integer -129 in two octets, 128 after the octet that counts it, b of the letters a and b, and 2.100.3. */
 static void seven_kinds(void)
 {
     const uint32_t letters[2] = {'a', 'b'};
@@ -123,7 +123,7 @@ static void seven_kinds(void)
     code = asn1v_read_fields(message, sizeof message, 1, &alphabet, 1, shapes, 7, read, 7, &end, &refusal);
     expect("and read", code == ASN1V_DONE && end == 79);
     expect("an integer by its number", (int64_t)read[3].low == -129 && read[3].first == 14 && read[3].length == 16);
-    expect("behind its count too", read[4].low == 128 && read[4].first == 30 && read[4].length == 24);
+    expect("after its count too", read[4].low == 128 && read[4].first == 30 && read[4].length == 24);
     expect("a character with its code", read[5].low == 'b' && read[5].high == 1 && read[5].length == 1);
     uint8_t contents[3];
     uint32_t arcs[4];
@@ -144,7 +144,7 @@ static void seven_kinds(void)
     expect("but no c", code == ASN1V_CHARACTER && refusal.field == 0 && refusal.low == 'c');
 }
 
-/* How the only field of a shape is rejected in four octets, and with which number. */
+/* Checks the code and the number with which the only field of a shape is rejected in four octets. */
 static bool is_no_field(asn1v_shape shape, const char *octets, asn1v_code wanted, uint64_t number)
 {
     asn1v_field read = {7, 7, 7, 7};
@@ -159,7 +159,7 @@ static void refused_kinds(void)
 {
     expect("00 7F is not shortest",
            is_no_field((asn1v_shape){ASN1V_INTEGER, 2}, "\x00\x7F\x00\x00", ASN1V_NOT_SHORTEST, 0));
-    expect("nor is FF 80 behind its count",
+    expect("nor is FF 80 after its count",
            is_no_field((asn1v_shape){ASN1V_COUNTED_INTEGER, 0}, "\x02\xFF\x80\x00", ASN1V_NOT_SHORTEST, 0));
     expect("no octets are none",
            is_no_field((asn1v_shape){ASN1V_INTEGER, 0}, "\x00\x00\x00\x00", ASN1V_NOT_SHORTEST, 0));

@@ -1,5 +1,5 @@
-/* The personnel record of X.691 A.2 in CANONICAL-PER, unaligned: its values are written, compared with the octets that
- * the standard gives, and read back. Characters are those of ISO 646. The program ends with 0 where all are right. */
+/* The personnel record of X.691 A.2 in CANONICAL-PER, unaligned: its values are written, compared with the octets of
+ * the standard, and read back. Characters are those of ISO 646. The exit status is 0 if all are right. */
 #include <inttypes.h>
 #include <stdio.h>
 #include <stdlib.h>
@@ -39,8 +39,8 @@ typedef struct {
     child children[MOST_CHILDREN];
 } record;
 
-/* A VisibleString: its permitted characters, all where there is no list of them, how many it may have, and in how many
- * bits their number less the least one is. */
+/* A VisibleString: its permitted characters, all if it is NULL, its least and greatest length, and the width of the
+ * length field. */
 typedef struct {
     const char *permitted;
     size_t least;
@@ -54,7 +54,7 @@ static const string_type INITIAL = {NAME_CHARACTERS, 1, 1, 0};
 static const string_type TITLE = {NULL, 0, MOST_CHARACTERS, 8};
 static const string_type DATE = {"0123456789", 8, 8, 0};
 
-/* A message, and the first bit that is not written or read yet. */
+/* A message, and the index of the first bit that is not written or read yet. */
 typedef struct {
     uint8_t octets[MOST_OCTETS];
     size_t count;
@@ -64,12 +64,12 @@ typedef struct {
 static void need(bool right, const char *what)
 {
     if (!right) {
-        printf("%s is wrong\n", what);
+        printf("%s is not as expected\n", what);
         exit(1);
     }
 }
 
-/* The alphabet of a string, which refers to the set. */
+/* Returns the alphabet of a string, which refers to the set. */
 static asn1v_alphabet alphabet_of(const string_type *type, uint32_t *set)
 {
     size_t count = type->permitted == NULL ? 0 : strlen(type->permitted);
@@ -126,7 +126,7 @@ static void write_name(message *m, const name *value, const char *what)
     write_string(m, &NAME_STRING, value->family, what);
 }
 
-/* After an octet that counts its octets: a number below zero has ones above. */
+/* Writes an octet that counts the number's octets, and these octets. The upper bits of a negative number are ones. */
 static void write_integer(message *m, int64_t number, const char *what)
 {
     const asn1v_shape shape = {ASN1V_COUNTED_INTEGER, 0};

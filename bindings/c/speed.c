@@ -1,9 +1,9 @@
-/* Times calls of the library from C: nanoseconds a call, the fastest of many rounds.
+/* Times calls of the library from C: nanoseconds per call, the fastest of many rounds.
  *
  *     cc -std=c11 -O2 bindings/c/speed.c crates/asn1_c/out/libasn1_c.a -o speed && ./speed
  *
- * Beside the calls for numbers is the same work in C, in the loop itself: what is left is what a call costs
- * beyond it. */
+ * The calls for numbers are compared with the same work in C, in the loop itself: the difference is the cost of the
+ * call. */
 #define _DEFAULT_SOURCE
 #include "asn1_values.h"
 
@@ -29,7 +29,7 @@ static inline uint64_t number(size_t i)
     return value;
 }
 
-/* The same in C: that the bits are there is tested too. */
+/* Does the same in C, and tests that the octets have the bits. */
 static inline uint64_t number_in_c(size_t i)
 {
     const size_t first = i & 4095;
@@ -47,7 +47,7 @@ static inline uint64_t integer(size_t i)
     return (uint64_t)value;
 }
 
-/* The same in C: octets of any length are taken, and one that does not fit is rejected. */
+/* Does the same in C: takes octets of any length, and rejects a number that does not fit. */
 static inline uint64_t integer_in_c(size_t i)
 {
     const uint8_t *at = octets + i % 1000;
@@ -93,7 +93,7 @@ static const asn1v_shape shapes[7] = {{ASN1V_NUMBER, 13},   {ASN1V_OCTETS, 4},  
 static const uint8_t spelled[7][4] = {{0x5A, 0x5A}, {1, 2, 3, 4}, {0x5A, 0x5A}, {0x12, 0x34}, {2, 0x12, 0x34},
                                       {0x50},       {0x2A, 0x86, 0x48}};
 
-/* At bit 3 of these octets lies the field of each kind. */
+/* Octets with the field of each kind at bit 3. */
 static uint8_t at_bit_3[7][8];
 static asn1v_field told[7];
 
@@ -126,7 +126,7 @@ static inline uint64_t field_written(size_t kind)
     return end;
 }
 
-/* Work in a loop of its own. */
+/* Makes a loop of the work. */
 #define LOOP(work)                                                                                                     \
     static uint64_t work##_loop(size_t calls)                                                                          \
     {                                                                                                                  \
@@ -136,7 +136,7 @@ static inline uint64_t field_written(size_t kind)
         return sum;                                                                                                    \
     }
 
-/* The same of a field of one kind. */
+/* Makes a loop of the work on a field of one kind. */
 #define KIND_LOOP(work, kind)                                                                                          \
     static uint64_t work##_##kind##_loop(size_t calls)                                                                 \
     {                                                                                                                  \

@@ -16,7 +16,7 @@ OWNER = re.compile(r"^(?:impl(?:<.*?>)? (?:.* for )?|pub trait )(\w+)", re.M)
 
 
 def snake(name):
-    """The name of a type in the form of a function's."""
+    """Returns the name of a type in snake case."""
     return re.sub(r"(?<=[a-z0-9])(?=[A-Z])", "_", name).lower()
 
 
@@ -29,7 +29,7 @@ class Example:
         self.body = "\n".join(it for it in lines if not it.startswith("use ")).strip("\n").splitlines()
 
     def test(self):
-        """The example as a test."""
+        """Returns the example as a test."""
         name = "_".join([*(snake(it) for it in self.item.split("::")), "example"])
         body = "".join(f"    {it}\n" if it else "\n" for it in self.body)
         head = f"/// The example of `{self.item}`.\n#[test]\nfn {name}(rt: HostRuntime) -> Result<(), Fail> {{\n"
@@ -37,7 +37,7 @@ class Example:
 
 
 def read(text, crate):
-    """The examples of the text of a source file of a crate."""
+    """Returns the examples of the text of a source file of a crate."""
     found, lines, begun = [], None, text.splitlines()
     for number, line in enumerate(begun):
         doc = re.fullmatch(r"( *)//[/!](?: (.*))?", line)
@@ -54,13 +54,13 @@ def read(text, crate):
 
 
 def of_crate(crate):
-    """The examples of a crate."""
+    """Returns the examples of a crate."""
     files = sorted(f"{at}/{it}" for at, _, names in os.walk(f"{crate.folder}/src") for it in names if it.endswith(".rt"))
     return [it for file in files for it in read(repository.text_of(file), crate.name)]
 
 
 def use(path, names):
-    """A `use` of names, as `rt fmt` lays it out."""
+    """Returns a `use` of names, as `rt fmt` lays it out."""
     line = f"use {path}::{{{', '.join(names)}}};" if len(names) > 1 else f"use {path}::{names[0]};"
     if len(line) <= WIDTH:
         return f"{line}\n"
@@ -69,7 +69,7 @@ def use(path, names):
 
 
 def module(name, examples):
-    """The text of the module of a crate's examples."""
+    """Returns the text of the module of a crate's examples."""
     named = {"std::test": {"Fail"}}
     for path, several, one in (it for example in examples for it in example.uses):
         named.setdefault(path, set()).update(re.findall(r"\w+", several or one))
@@ -78,7 +78,7 @@ def module(name, examples):
 
 
 def files():
-    """The files of the crate of examples, by path."""
+    """Returns the files of the crate of examples, by path."""
     made, names = {}, []
     for name, crate in sorted(repository.crates().items()):
         found = of_crate(crate)

@@ -12,11 +12,11 @@ NO_BODY = "{ loop {} }"
 
 
 class Unfit(Exception):
-    """Why a mutation test cannot be tried."""
+    """Says why a mutation test cannot be tried."""
 
 
 def place_of(text, file, old):
-    """Where the text is: module, type, trait and name of the function around it. None outside every function."""
+    """Returns where a text is: module, type, trait and name of the function around it, or None outside of functions."""
     at = text.find(old)
     heads = list(re.finditer(HEAD, text[: at + len(old)], re.M))
     if not heads:
@@ -28,39 +28,40 @@ def place_of(text, file, old):
 
 
 def place_at(text, file, head):
-    """The place of the function or the constant with this head."""
+    """Returns where the function or the constant with this head is."""
     blocks = re.findall(BLOCK, text[: head.start()], re.M) if head[1] else []
     trait, _, of = (blocks[-1][0] or blocks[-1][1] if blocks else "").rpartition(" for ")
     return module_of(file), of, trait, head[2] or head[3]
 
 
 def module_of(file):
-    """The module of a file, as the names of its functions begin."""
+    """Returns the module of a file, as the names of its functions begin."""
     module = re.sub(r"^src/|\.rt$", "", file).replace("/", "::")
     return "" if module in ("lib", "main") else f"{module}::"
 
 
 def without_parameters(path):
-    """The last name of a type's or a trait's path, as a check writes it within a name. A type parameter is one letter."""
+    """Returns the last name of a type's or a trait's path, as a check writes it within a name. A type parameter is one
+    letter."""
     last = re.sub(r"<.*", "", path.strip(), flags=re.S).split("::")[-1]
     return "Any" if re.fullmatch("[A-Z]", last) else capitals(last)
 
 
 def capitals(path):
-    """A type or a trait as a check writes it within a name: `From<u8>` is FromU8, `&[u8]` is RefSliceU8."""
+    """Returns a type or a trait as a check writes it within a name: `From<u8>` is FromU8, `&[u8]` is RefSliceU8."""
     words = re.sub(r"'\w+", "", path).replace("&", " ref ").replace("[", " slice ")
     return "".join(it[0].upper() + it[1:] for it in re.findall(r"\w+", words))
 
 
 def names_of(place):
-    """The names by which a check may print the function of this place."""
+    """Returns the names by which a check may print the function of this place."""
     module, of, trait, name = place
     own = without_parameters(of)
     return {f"{module}{own}{it}::{name}" if of else f"{module}{name}" for it in (without_parameters(trait), capitals(trait))}
 
 
 def function_at(place, known):
-    """The function of this place, by the name that a check prints."""
+    """Returns the function of this place, by the name that a check prints."""
     module, of, _, name = place
     own = without_parameters(of)
     likely = [names_of(place), {it for it in known if it.startswith(module) and it.endswith(f"::{name}")}]
@@ -72,7 +73,7 @@ def function_at(place, known):
 
 
 def is_at(place, function, known):
-    """Whether the function of this place is the one that a check names so."""
+    """Returns whether the function of this place is the one that a check names so."""
     try:
         return function in names_of(place) or function == function_at(place, known)
     except Unfit:
@@ -80,7 +81,7 @@ def is_at(place, function, known):
 
 
 def told_at(place, known):
-    """The function of this place, by the name that a check prints if that is plain, for a message."""
+    """Returns the function of this place, by the name that a check prints if that is plain, for a message."""
     try:
         return function_at(place, known) if place else "no function"
     except Unfit:
@@ -88,15 +89,15 @@ def told_at(place, known):
 
 
 def in_cycles(text, file, known):
-    """Which of the functions known to a check are functions of the text that are in a cycle of calls, as a line
-    `#[cycle(NAME)]` above each says."""
+    """Returns which functions of the text, of those known to a check, are in a cycle of calls: a line `#[cycle(NAME)]` is
+    above each."""
     marked = r"^ *#\[cycle\(.*\n(?: *#\[.*\n)*\Z"
     heads = [it for it in re.finditer(HEAD, text, re.M) if re.search(marked, text[: it.start()], re.M)]
     return {function_at(place_at(text, file, it), known) for it in heads}
 
 
 def body_of(text, head):
-    """From where to where the body of the function with this head goes, its braces with it. None where it has none."""
+    """Returns where the body of the function with this head begins and ends, with its braces, or None if it has none."""
     indent, at, has_clauses = head[1], head.start(), False
     for line in text[at:].splitlines():
         has_clauses = has_clauses or bool(re.match(CLAUSE, line) and at > head.start())
@@ -112,8 +113,8 @@ def body_of(text, head):
 
 
 def without_bodies(text, file, left_out, kept):
-    """The text without the bodies of functions of these names. Those at a kept place keep theirs, and so does what the
-    compiler may run or has to read: a `const fn`, and one that returns an `impl`."""
+    """Returns the text without the bodies of functions of these names. Those at a kept place keep theirs, and so do those
+    that the compiler may run or must read: a `const fn`, and one that returns an `impl`."""
     parts, last = [], 0
     for head in re.finditer(HEAD, text, re.M):
         place = place_at(text, file, head)

@@ -51,7 +51,7 @@ class Mutation:
             raise Unfit(f"{self.name} lacks a line that begins with `+`, or both")
 
     def steps(self, text):
-        """The file's text before each pair is applied, and after the last."""
+        """Yields the file's text before each pair is applied, and after the last."""
         for old, new in self.pairs:
             if text.count(old) != 1:
                 raise Unfit(f"an old text is in {self.file} {text.count(old)} times, and not once: {old.strip()}")
@@ -60,16 +60,16 @@ class Mutation:
         yield text
 
     def applied(self, text):
-        """The file's text with this change."""
+        """Returns the file's text with this change."""
         return [*self.steps(text)][-1]
 
     def places(self, text):
-        """Where each old text is, as `place_of` says it."""
+        """Returns where each old text is, as `place_of` does."""
         return [place_of(before, self.file, old) for before, (old, _) in zip(self.steps(text), self.pairs)]
 
     def function_in(self, text, known):
-        """The function that must be rejected, by the name among these that a check prints. An old text must be in it, but
-        where one is a constant's, or is outside every function."""
+        """Returns the function that must be rejected, by the name among these that a check prints. An old text must be in
+        it, unless one is a constant's, or is outside of functions."""
         full = f"{module_of(self.file)}{self.function}"
         named = [*({full} & known or {it for it in known if it.endswith(f"::{self.function}")})]
         places = self.places(text)
@@ -80,7 +80,7 @@ class Mutation:
 
 
 def read(text):
-    """The mutation tests of the text of a mutations.txt."""
+    """Returns the mutation tests of the text of a mutations.txt."""
     found = []
     for block in re.split(r"\n\s*\n", text):
         lines = [it for it in block.splitlines() if it.strip() and not it.startswith("#")]

@@ -8,16 +8,16 @@ LAST = 40
 
 
 def count(said, status):
-    """How many checks of a step passed and failed, by its last line. A step that ends with another status than 0 has failed
-    at least once."""
+    """Returns how many checks of a step passed and failed, by its last line. A step that ends with another status than 0 has
+    failed at least once."""
     last = re.search(r"^(\d+) passed, (\d+) failed\s*\Z", said, re.M)
     passed, failed = (int(last[1]), int(last[2])) if last else (0, 1)
     return passed, failed or int(status != 0)
 
 
 def why(said):
-    """The lines that tell of a failure, and after them the end of the block of each crate that `rt ci` did not prove, or the
-    end of all where there is none."""
+    """Returns the lines about failures, followed by the end of the block of each crate that `rt ci` did not prove, or by the
+    end of the output if there is none."""
     lines, ends, begin = said.splitlines(), [], 0
     for at, line in enumerate(lines):
         if line.startswith("== "):

@@ -35,7 +35,7 @@ RUN = re.compile(rf"{TEXT} = (\d+) {TEXT}")
 
 
 def need(*commands):
-    """Ends the script where one of these commands is missing, and names the Debian package that has it."""
+    """Ends the script if one of these commands is missing, and names the Debian package that has it."""
     missing = [it for it in commands if not shutil.which(it)]
     if missing:
         print("".join(f"{it} is missing: apt-get install {PACKAGES[it]}\n" for it in missing) + f"0 passed, {len(missing)} failed")
@@ -43,7 +43,7 @@ def need(*commands):
 
 
 def kit():
-    """The folder of the kit: the one of the page that `rt doc` names."""
+    """Returns the folder of the kit: the one of the page that `rt doc` names."""
     page = subprocess.run(["rt", "doc"], stdout=subprocess.PIPE, text=True, check=True).stdout.strip()
     return os.path.dirname(page)
 
@@ -58,16 +58,16 @@ class Crate:
         self.is_program = os.path.isfile(f"{self.folder}/src/main.rt")
 
     def size_of_mutations(self):
-        """The octets of the crate's mutation tests, 0 where it has none."""
+        """Returns the number of octets of the crate's mutation tests."""
         path = f"{self.folder}/mutations.txt"
         return os.path.getsize(path) if os.path.isfile(path) else 0
 
     def mutations(self):
-        """The crate's mutation tests."""
+        """Returns the crate's mutation tests."""
         return mutations.read(text_of(f"{self.folder}/mutations.txt")) if self.size_of_mutations() else []
 
     def has_tests(self):
-        """Whether the crate names tests."""
+        """Returns whether the crate has tests."""
         files = [f"{at}/{it}" for at, _, names in os.walk(f"{self.folder}/src") for it in names]
         return any("#[test]" in text_of(it) for it in files)
 
@@ -78,7 +78,8 @@ def text_of(path):
 
 
 def crates(libraries=None):
-    """The crates of crates.txt by name, lowest first. Their built libraries are in this folder, without it in `out/`."""
+    """Returns the crates of crates.txt by name, lowest first. Their built libraries are in this folder, without it in
+    `out/`."""
     found = {}
     for line in text_of(f"{TOP}/crates.txt").splitlines():
         head, colon, uses = line.partition("#")[0].partition(":")
@@ -89,7 +90,7 @@ def crates(libraries=None):
 
 
 def below(of, name):
-    """The names of the repository's libraries below a crate."""
+    """Returns the names of the repository's libraries below a crate."""
     found = []
     for it in of[name].uses:
         if it in of:
@@ -98,8 +99,8 @@ def below(of, name):
 
 
 def rattle(verb, crate, of, *flags):
-    """The kit's command `rattle check` or `rattle build` for a crate, over the built libraries below it. A library for C is
-    checked as an ordinary library, since only a build links what it reaches."""
+    """Returns the kit's command `rattle check` or `rattle build` for a crate, over the built libraries below it. A library
+    for C is checked as an ordinary library, since only a build links what it reaches."""
     root = kit()
     words = [f"{root}/bin/rattle", verb, "--crate-name", crate.name]
     words += ["src/main.rt" if crate.is_program else "src/lib.rt"]
@@ -113,7 +114,7 @@ def rattle(verb, crate, of, *flags):
 
 
 def runs(crate):
-    """The rows of the files in the crate's folder `runs`."""
+    """Returns the rows of the files in the crate's folder `runs`."""
     at = f"{crate.folder}/runs"
     lines = [line for name in sorted(os.listdir(at)) for line in text_of(f"{at}/{name}").splitlines()]
     rows = [RUN.fullmatch(it).groups() for it in lines if it and not it.startswith("#")]
@@ -121,7 +122,7 @@ def runs(crate):
 
 
 def built(crate):
-    """The program of a crate as each compiler built it. Where none did, the script ends."""
+    """Returns the program of a crate as each compiler built it. The script ends if none did."""
     made = [f"{crate.folder}/out/{crate.name}{end}" for end in ("", ".by-rattle")]
     made = [it for it in made if os.access(it, os.X_OK)]
     if not made:
@@ -131,8 +132,8 @@ def built(crate):
 
 
 def preloaded(name, folder):
-    """The C file of this name in scripts/ as a library in this folder, made by the kit's compiler, to be loaded before the
-    C library."""
+    """Returns the C file of this name in scripts/ as a library in this folder, made by the kit's compiler, to be loaded
+    before the C library."""
     tools, made = f"{kit()}/toolchain/bin", f"{folder}/{name}.so"
     words = [f"{tools}/clang", "--target=x86_64-unknown-linux-gnu", "-O1", "-Wall", "-Werror", "-fno-builtin", "-fPIC"]
     words += ["-shared", "-nostdlib", f"-fuse-ld={tools}/ld.lld", "-o", made, f"{TOP}/scripts/{name}.c"]
@@ -141,5 +142,5 @@ def preloaded(name, folder):
 
 
 def functions_in(said, crate):
-    """The names of the crate's functions in what a check that proved it printed."""
+    """Returns the names of the crate's functions in what a check that proved it printed."""
     return set(re.findall(rf"^fn {crate.name}::(\S+): proved$", said, re.M))

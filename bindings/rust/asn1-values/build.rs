@@ -1,5 +1,5 @@
-//! Links the static library. It is in the folder that `ASN1_VALUES_LIBRARY` names, otherwise in the repository's
-//! `crates/asn1_c/out`; if it is not there yet, `rt lib` proves and builds it.
+//! Links the static library from the folder that `ASN1_VALUES_LIBRARY` names, otherwise from the repository's
+//! `crates/asn1_c/out`; if it does not exist there, `rt lib` proves and builds it.
 
 use std::env;
 use std::path::{Path, PathBuf};

@@ -98,7 +98,7 @@ has_by_words set words c has_words = elim (cases_lt c 256) [
       grind (arith, nat_tests) in rw above (sym (none_from set c has_words.below ge)))
 ]
 
--- a place was found exactly where the set has the character
+-- an index was found exactly if the set has the character
 pub found_is : (set : List ℕ) (c : ℕ) (o : Option ℕ)
     → MatchOption o (has_character set c ≡ false) (λ k. slice_get set k ≡ Some c) → is_some o ≡ has_character set c
 found_is set c None none = sym none
@@ -115,6 +115,6 @@ pub none_if : {A : Type 0} (kept : Bool) (value : A) (o : Option A) → some_if 
 none_if true value o same told = cc
 none_if false value o same told = rw (sym same) refl
 
--- words that are there, and have the set's characters
+-- words that are present, and have the set's characters
 pub some_words : (set : List ℕ) (words : CharacterWords) → HasWords set words → ForSome (Some words) (HasWords set)
 some_words set words has_words x e = let is : words ≡ x = cc in rw is at has_words

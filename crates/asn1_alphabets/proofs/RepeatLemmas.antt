@@ -32,7 +32,7 @@ repeat_pair (x ∷ xs) twice = λ differ. elim (or_cases (has_character xs x) (h
   | inr later ↦ repeat_pair xs later (λ i j d lt within. differ (suc i) (suc j) d (omega arith) (omega arith))
 ]
 
--- the places of a list without x differ from x
+-- the entries of a list without x differ from x
 place_differs : (xs : List ℕ) (x k d : ℕ) → has_character xs x ≡ false → k < length xs → x ≢ get_or xs k d
 place_differs [] x k d none lt = absurd (omega arith)
 place_differs (y ∷ xs) x zero d none lt = λ e. let t : eqb y x ≡ false =

@@ -11,7 +11,7 @@ use Rattle.asn1_characters.specs.Laws.SetLaws.{has_in_run}
 use Rattle.asn1_characters.specs.Laws.TableLaws.{run_largest}
 use Rattle.asn1_alphabets.specs.AlphabetInMemory.{IsRun}
 
--- some characters, each as far from the first as its place
+-- some characters, each as far from the first as its index
 pub run_from_places : (set : List ℕ) (first : ℕ) → 0 < length set → first + length set < 2 ^ 32
     → ((k : ℕ) → k < length set → get_or set k 0 ≡ first + k) → IsRun set
 run_from_places set first some room each =
@@ -24,7 +24,7 @@ run_from_places set first some room each =
       ends = rw is room;
     }
 
--- the entry at a place of a run
+-- the entry at an index of a run
 pub run_entry : (set : List ℕ) (k : ℕ) → IsRun set → k < length set → get_or set k 0 ≡ get_or set 0 0 + k
 run_entry set k run lt =
     ap (λ s. get_or s k 0) run.gapless ∙ get_or-range_with_len (get_or set 0 0) (length set) k 0 lt
@@ -34,14 +34,14 @@ pub told_true : (b : Bool) → (b ≡ false → ⊥) → b ≡ true
 told_true true none = refl
 told_true false none = absurd (none refl)
 
--- the character at a place of a range
+-- the character at an index of a range
 pub range_at : (first count k : ℕ) → k < count → slice_get (range_with_len first count) k ≡ Some (first + k)
 range_at first count k lt =
     let long = length-range_with_len first count in
     slice_get-get_or (range_with_len first count) k 0 (omega arith)
     ∙ ap Some (get_or-range_with_len first count k 0 lt)
 
--- how far a character is from the first, where 2^32 comes round to 0
+-- how far a character is from the first, where 2^32 wraps to 0
 abbrev pub distance : ℕ → ℕ → ℕ
 distance first c = (c + (2 ^ 32 - first)) % 2 ^ 32
 
@@ -50,7 +50,7 @@ pub run_place_at : (first count c : ℕ) → 0 < count → first + count < 2 ^ 3
     → slice_get (range_with_len first count) (distance first c) ≡ Some c
 run_place_at first count c some room small near = range_at first count (distance first c) near ∙ ap Some (omega arith)
 
--- one that is further is not there
+-- a character that is further is not in the range
 pub run_far_at : (first count c : ℕ) → 0 < count → first + count < 2 ^ 32 → c < 2 ^ 32 → count ≤ distance first c
     → has_character (range_with_len first count) c ≡ false
 run_far_at first count c some room small far =

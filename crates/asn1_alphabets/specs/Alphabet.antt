@@ -15,7 +15,7 @@ pub data Origin : Type 0 where
   BaseOf : CharacterSetName → Origin
 
 -- an alphabet: its set, the width of its characters in bits, whether they are written by their
--- places, and its origin
+-- indices, and its origin
 pub record Alphabet : Type 0 where
   pub characters : List ℕ
   pub width : ℕ
@@ -44,7 +44,7 @@ abbrev pub origin_of : CharacterSetName → Option (List ℕ) → Origin
 origin_of name None = BaseOf name
 origin_of name (Some set) = Permitted
 
--- whether characters of a set are written by their places, since the largest does not fit the width
+-- whether characters of a set are written by their indices, since the largest does not fit the width
 abbrev pub is_indexed : ℕ → List ℕ → Bool
 is_indexed width set = nat_le (2 ^ width) (largest set)
 
@@ -97,7 +97,7 @@ Decodes alphabet k result =
     MatchResult result (λ c. IsCode alphabet c k)
     (λ e. (e ≡ uncoded_error alphabet k) × ((c : ℕ) → ¬ (IsCode alphabet c k)))
 
--- the set is ascending, no character below the one before it, and long enough for a search by
--- halves
+-- the set is ascending, no character below the one before it, and long enough for a binary
+-- search
 abbrev pub IsLongAscending : List ℕ → Type 0
 IsLongAscending set = IsNonDecreasing set × (64 < length set)

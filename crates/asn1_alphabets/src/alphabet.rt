@@ -306,7 +306,7 @@ impl<'s> CharacterAlphabet<'s> {
         self.contains_by_looks(character, probes)
     }
 
-    /// Returns whether the set has the character: by looks at a permitted set, otherwise as its
+    /// Returns whether the set has the character: by probes of a permitted set, otherwise as its
     /// base set says.
     #[inline(never)]
     fn contains_by_looks(&self, character: u32, probes: &mut Turns) -> bool

@@ -59,7 +59,7 @@ impl<'s> EffectiveSet<'s> {
         }
     }
 
-    /// Its largest character. `run` tells whether it is known to be contiguous.
+    /// Returns its largest character. `run` says whether it is known to be contiguous.
     pub(crate) fn largest(self, run: bool) -> u32
         requires { run ≡ true → IsRun (characters_of self) }
         ensures { result ≡ largest (characters_of self.entry) }

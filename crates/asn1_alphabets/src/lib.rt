@@ -2,7 +2,7 @@
 //! of `asn1_characters`.
 //!
 //! An alphabet is of an effective set: the permitted set of a string if X.691 30.5 says that it
-//! takes effect, otherwise the string's base set. It gives each character of that set a code, which
+//! takes effect, otherwise the string's base set. Each character of that set has a code, which
 //! is the character's index in the set or its value. A binary search finds an index in a long
 //! ascending set. No call allocates.
 //!

@@ -1,4 +1,4 @@
-//! Search in lists of characters: by halves in long ascending lists, otherwise one by one.
+//! Search in lists of characters: binary search in long ascending lists, otherwise one by one.
 ghost use Rattle.std.specs.Prelude.{◌≡◌, ◌≤◌, ◌+◌, ◌<◌, ◌^◌, ℕ, true, false, List, length, slice_get, slice_index, Some, OnSome, MatchOption};
 ghost use Rattle.std.specs.List.Sorted.{IsNonDecreasing};
 ghost use Rattle.asn1_characters.specs.Sets.{has_character};
@@ -8,7 +8,7 @@ ghost use Rattle.asn1_alphabets.specs.Alphabet.{IsLongAscending};
 use asn1_bits::Turns;
 use std::fmt;
 
-/// A list of numbers. One look at an entry is a probe.
+/// A list of numbers. Reading one entry is a probe.
 pub trait Entries {
     /// The list.
     ghost list: { Self → List ℕ };
@@ -32,17 +32,17 @@ pub trait Entries {
         ensures probe { probes.new.count ≡ probes.old.count + 1 };
 }
 
-/// A list in memory, and the number of looks at it, which takes no bytes.
+/// A list in memory, and the number of probes of it, which takes no bytes.
 #[derive(Drop)]
 pub struct CountedSlice<'a> {
     /// The list.
     pub entries: &'a [u32],
-    /// The looks at it.
+    /// How many probes were made.
     pub taken: Turns,
 }
 
 impl<'a> CountedSlice<'a> {
-    /// Returns the list, with no look at it yet.
+    /// Returns the list, with no probe made yet.
     pub fn at(entries: &'a [u32]) -> CountedSlice<'a>
         ensures list { result.entries.now ≡ entries.now }
         ensures none { result.taken.count ≡ 0 }
@@ -100,7 +100,7 @@ pub(crate) fn find_one_by_one<L: Entries>(
 
 /// Returns an index of the character in an ascending list, or `None` if the list lacks it. Among N
 /// entries it makes at most w + 1 probes, where w is the least width in bits in which N things have
-/// codes, and at least one if it returns an index. Each probe is a look at the list.
+/// codes, and at least one if it returns an index. Each probe reads one entry of the list.
 ///
 /// The list must be ascending: no entry is below the one before it.
 pub fn find_ascending<L: Entries>(
@@ -137,8 +137,8 @@ pub fn find_ascending<L: Entries>(
     None
 }
 
-/// Returns an index of the character: by halves where the list is long and ascending, otherwise one
-/// by one. It sees the list through looks alone.
+/// Returns an index of the character: by binary search in a long ascending list, otherwise one
+/// by one. It reads the list by probes alone.
 #[inline(always)]
 fn place_among<L: Entries>(
     entries: &mut L,

@@ -12,13 +12,13 @@ const TWENTY: [u32; 20] = [
 /// The permitted sets.
 #[derive(Clone, Copy)]
 pub enum Set {
-    /// The digits: no gap.
+    /// The digits, without a gap.
     Ten,
     /// Three runs of characters.
     Twenty,
     /// The 52 letters, `-` and `.`, as names in X.691 A.2 have them.
     FiftyFour,
-    /// Every second character of two octets: searched by halves.
+    /// Every second character of two octets, found by binary search.
     Many,
 }
 

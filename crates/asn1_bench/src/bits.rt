@@ -7,7 +7,7 @@ use std::alloc::{AllocError, Global};
 /// How many bits a copy has.
 const BITS: usize = 8192;
 
-/// Octets that differ from each other.
+/// Returns octets that differ from each other.
 pub fn octets_of(alloc: Global, count: usize) -> Result<Vec<u8>, AllocError> {
     let mut octets = Vec::new(alloc);
     octets.reserve(count)?;
@@ -64,7 +64,7 @@ impl Row for Copied {
     }
 }
 
-/// Numbers of 32 bits, read from each bit on.
+/// Numbers of 32 bits, read at each bit index.
 #[derive(Drop)]
 pub struct Numbers {
     octets: Vec<u8>,

@@ -92,7 +92,7 @@ static CERTIFICATE: [u8; 861] = [
     0xA7, 0x8A, 0xCC, 0x71, 0x4F, 0x86, 0x4D, 0xBA, 0xB2, 0x5C, 0xB8, 0x51, 0xC4,
 ];
 
-/// How many parts it has at most.
+/// The most parts that it has.
 const ROOM: usize = 128;
 
 /// The certificate, decoded or encoded a hundred times.
@@ -149,6 +149,8 @@ impl Certificate {
             defaults: self.defaults.defaults(),
             parts,
             source: &CERTIFICATE,
+            is_ordered: true,
+            lengths: &[],
         };
         match encode(&value, 16, self.node, octets) {
             Ok(encoded) => Ok(encoded.octets),

@@ -13,7 +13,7 @@ const LETTERS: [u32; 32] = [
     88, 89, 90, 91, 92, 93, 94, 95,
 ];
 
-/// The fields after three bits.
+/// Returns the fields after three bits.
 fn write_behind(alloc: Global, fields: &[Field<'_, '_>]) -> Result<BitBuffer, AllocError> {
     let mut buffer = BitBuffer::new(alloc);
     buffer.push_bits(5, 3)?;
@@ -33,7 +33,8 @@ fn read_behind(alloc: Global, buffer: &BitBuffer, shapes: &[Shape<'_>]) -> u64 {
     }
 }
 
-/// Writes the fields after three bits and reads them from there: so many bits and fields.
+/// Writes the fields after three bits and reads them again. Returns the number of bits and of
+/// fields.
 fn there_and_back(
     alloc: Global,
     fields: &[Field<'_, '_>],
@@ -53,7 +54,7 @@ pub struct Fields<'a> {
 }
 
 impl<'a> Fields<'a> {
-    /// A thousand numbers of 7 bits, in so many bits each.
+    /// Returns a thousand numbers of 7 bits, in `width` bits each.
     pub fn numbers(
         alloc: Global,
         width: usize,
@@ -67,7 +68,7 @@ impl<'a> Fields<'a> {
         Ok(row)
     }
 
-    /// A thousand integers of two octets.
+    /// Returns a thousand integers of two octets.
     pub fn integers(alloc: Global) -> Result<Fields<'a>, AllocError> {
         let name = "an integer of two octets written and read as a field";
         let mut row = Fields::new(alloc, name, 1000, 1);
@@ -78,7 +79,7 @@ impl<'a> Fields<'a> {
         Ok(row)
     }
 
-    /// A thousand characters of an alphabet of 32.
+    /// Returns a thousand characters of an alphabet of 32.
     pub fn characters(alloc: Global) -> Result<Fields<'a>, AllocError> {
         let alphabet = CharacterAlphabet::new::<Ia5String>(Some(&LETTERS), false);
         let name = "a character of 32 written and read as a field";
@@ -94,7 +95,7 @@ impl<'a> Fields<'a> {
         Ok(row)
     }
 
-    /// A message of a number, octets, a counted integer and an integer, a hundred times.
+    /// Returns a message of a number, octets, a counted integer and an integer, a hundred times.
     pub fn message(alloc: Global) -> Result<Fields<'a>, AllocError> {
         let name = "a message of four fields written and read";
         let mut row = Fields::new(alloc, name, 100, 100);
@@ -111,7 +112,7 @@ impl<'a> Fields<'a> {
         Ok(row)
     }
 
-    /// No fields yet: so many pieces of work, done so many times in a round.
+    /// Makes a row without fields: of `pieces` pieces of work, done `times` times in a round.
     fn new(alloc: Global, name: &'static str, pieces: u64, times: u32) -> Fields<'a> {
         Fields {
             work: Work {

@@ -16,13 +16,13 @@ pub enum Size {
 /// How the contents are written.
 #[derive(Clone, Copy)]
 pub enum Way {
-    /// The crate returns octet by octet, and each is pushed.
+    /// The crate returns one octet at a time, and each is pushed.
     Octets,
     /// The crate appends them all by one call.
     Call,
 }
 
-/// The arcs, of which the last is below 128.
+/// Returns the arcs, of which the last is below 128.
 fn arcs_of(alloc: Global, size: Size) -> Result<Vec<u32>, AllocError> {
     match size {
         Size::Seven => [1, 2, 840, 113549, 1, 1, 11].to_vec(alloc),
@@ -53,7 +53,7 @@ impl Read {
     }
 }
 
-/// The last arc and the number of arcs.
+/// Returns the last arc and the number of arcs.
 fn sum_of(arcs: &[u32]) -> u64 {
     arcs.last()
         .map_or(0, |arc| u64::from(*arc))
@@ -116,7 +116,7 @@ impl Written {
     }
 }
 
-// Each way is a call of its own, so that none is compiled into the code of another.
+// Each way is a function of its own, so that the compiler does not merge them.
 #[inline(never)]
 fn write(arcs: &[u32], octets: &mut Vec<u8>) -> Result<(), AllocError> {
     if let Some(oid) = Oid::new(arcs) {

@@ -1,5 +1,5 @@
-//! How long pieces of work take: `asn1_bench` lists them, `asn1_bench ROUNDS` times each, best of
-//! so many rounds.
+//! Times pieces of work: `asn1_bench` lists them, `asn1_bench ROUNDS` times each, and prints the
+//! best of ROUNDS rounds.
 #![tactic(auto)]
 
 mod alphabets;
@@ -42,7 +42,7 @@ fn main(rt: HostRuntime) -> anyhow::Result<()> {
     show(&rt, Certificate::new(rt.alloc(), true), rounds)
 }
 
-/// The rows of the records of X.691, annex A.
+/// Returns the rows of the records of X.691, annex A.
 fn show_records(rt: &HostRuntime, rounds: u32) -> anyhow::Result<()> {
     for record in [
         Record::SecondDecoded,
@@ -55,7 +55,7 @@ fn show_records(rt: &HostRuntime, rounds: u32) -> anyhow::Result<()> {
     Ok(())
 }
 
-/// The rows of bits and of whole numbers.
+/// Returns the rows of bits and of whole numbers.
 fn show_bits(rt: &HostRuntime, rounds: u32) -> anyhow::Result<()> {
     let alloc = rt.alloc();
     show(rt, Copied::new(alloc, 0, 0), rounds)?;
@@ -65,7 +65,7 @@ fn show_bits(rt: &HostRuntime, rounds: u32) -> anyhow::Result<()> {
     show(rt, Ok(Octets::new()), rounds)
 }
 
-/// The rows of identifiers.
+/// Returns the rows of identifiers.
 fn show_identifiers(rt: &HostRuntime, rounds: u32) -> anyhow::Result<()> {
     let alloc = rt.alloc();
     for size in [Size::Seven, Size::Many] {
@@ -77,7 +77,7 @@ fn show_identifiers(rt: &HostRuntime, rounds: u32) -> anyhow::Result<()> {
     Ok(())
 }
 
-/// The rows of alphabets.
+/// Returns the rows of alphabets.
 fn show_alphabets(rt: &HostRuntime, rounds: u32) -> anyhow::Result<()> {
     for set in [Set::Ten, Set::Twenty, Set::FiftyFour, Set::Many] {
         show(rt, Codes::new(rt.alloc(), set), rounds)?;
@@ -85,7 +85,7 @@ fn show_alphabets(rt: &HostRuntime, rounds: u32) -> anyhow::Result<()> {
     Ok(())
 }
 
-/// The rows of strings.
+/// Returns the rows of strings.
 fn show_strings(rt: &HostRuntime, rounds: u32) -> anyhow::Result<()> {
     let alloc = rt.alloc();
     let kinds = [
@@ -105,7 +105,7 @@ fn show_strings(rt: &HostRuntime, rounds: u32) -> anyhow::Result<()> {
     show(rt, Bits::new(alloc, false), rounds)
 }
 
-/// The rows of fields.
+/// Returns the rows of fields.
 fn show_fields(rt: &HostRuntime, rounds: u32) -> anyhow::Result<()> {
     let alloc = rt.alloc();
     let name = "a number of 7 bits written and read as a field";

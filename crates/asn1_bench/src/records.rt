@@ -1,4 +1,4 @@
-//! The personnel records of X.691 A.2 and A.3, decoded and encoded by a schema that is data.
+//! The personnel records of X.691 A.2 and A.3, decoded and encoded by the tables of a schema.
 
 use crate::row::{Row, Work};
 use asn1_schema::{Bounds, Length, Member, Node, Part, Presence, Range, Rows, Span, Tables};
@@ -34,8 +34,8 @@ fn rows(from: usize, count: u32) -> Rows {
     Rows { from, count }
 }
 
-/// A string of least to greatest characters, of the ranges of a name, of a VisibleString or of a
-/// date.
+/// Returns a string of `least` to `least + range` characters, with the alphabet of a name, a
+/// VisibleString or a date.
 fn text(least: u32, range: u32, is_extensible: bool, alphabet: Rows) -> Node {
     Node::Text {
         length: Length::Between { least, range },
@@ -45,7 +45,7 @@ fn text(least: u32, range: u32, is_extensible: bool, alphabet: Rows) -> Node {
     }
 }
 
-/// A VisibleString of any length.
+/// Returns a VisibleString of any length.
 fn visible() -> Node {
     Node::Text {
         length: Length::AtLeast { least: 0 },
@@ -55,7 +55,7 @@ fn visible() -> Node {
     }
 }
 
-/// A SEQUENCE, or a SET whose components have the canonical order of their tags.
+/// Returns a SEQUENCE, or a SET whose components have the canonical order of their tags.
 fn sequence(root: Rows, is_extensible: bool, additions: Rows) -> Node {
     Node::Sequence {
         root,
@@ -64,8 +64,8 @@ fn sequence(root: Rows, is_extensible: bool, additions: Rows) -> Node {
     }
 }
 
-/// The types of A.2, in which nothing is extensible, or of A.3: the record, a name, its parts, a
-/// number, a title, a date, the children, a child, its sex.
+/// Returns the types of A.2, in which nothing is extensible, or of A.3: the record, a name, its
+/// parts, a number, a title, a date, the children, a child, its sex.
 fn types(is_extensible: bool) -> [Node; 10] {
     let number = if is_extensible {
         Node::IntegerBetween {
@@ -105,7 +105,7 @@ fn types(is_extensible: bool) -> [Node; 10] {
     ]
 }
 
-/// A component of this type, which must be present.
+/// Returns a component of this type, which must be present.
 fn mandatory(node: usize) -> Member {
     Member {
         node,
@@ -113,7 +113,7 @@ fn mandatory(node: usize) -> Member {
     }
 }
 
-/// The components: of the record, of a name, of a child, and the addition of a child.
+/// Returns the components: of the record, of a name, of a child, and the addition of a child.
 fn components(is_extensible: bool) -> [Member; 12] {
     let children = if is_extensible {
         Presence::Optional
@@ -164,7 +164,7 @@ static NO_CHILDREN: [u8; 1] = [0];
 
 static SPANS: [Span; 1] = [Span { at: 0, count: 8 }];
 
-/// How many parts a record has at most.
+/// The most parts that a record has.
 const ROOM: usize = 32;
 
 /// A record, decoded or encoded a hundred times in the UNALIGNED variant.

@@ -8,23 +8,24 @@ use std::time::Instant;
 pub struct Work {
     /// What is done, in a few words.
     pub name: &'static str,
-    /// How many pieces a round has.
+    /// The number of pieces in a round.
     pub pieces: u64,
-    /// How many octets a round goes over, or 0 where none are counted.
+    /// The number of octets in a round, or 0 if they are not counted.
     pub octets: u64,
 }
 
 /// A piece of work that is done many times in a round.
 pub trait Row {
-    /// What the work is.
+    /// Returns what the work is.
     fn work(&self) -> Work;
 
-    /// A round. The number depends on the work, so that none of it can be left out.
+    /// Does a round. The result depends on all of the work, so that the compiler cannot leave out
+    /// any of it.
     fn round(&mut self, alloc: Global) -> Result<u64, AllocError>;
 }
 
-/// A line for the row, if it could be made: what its round answers; or, where it is timed, how long
-/// a piece takes in its best round.
+/// Prints a line for the row, if it could be made: the result of its round or, if it is timed, the
+/// time of a piece in the best round.
 pub fn show<R: Row + Drop>(
     rt: &HostRuntime,
     made: Result<R, AllocError>,
@@ -40,7 +41,7 @@ pub fn show<R: Row + Drop>(
     show_time(rt, work, best_of(rt, &mut row, rounds)?)
 }
 
-/// A line for a round of the work that takes so many nanoseconds.
+/// Prints a line for work whose best round takes `best` nanoseconds.
 fn show_time(rt: &HostRuntime, work: Work, best: u64) -> anyhow::Result<()> {
     // Hundredths of a nanosecond.
     let each = u128::from(best) * 100 / u128::from(work.pieces.max(1));
@@ -51,7 +52,7 @@ fn show_time(rt: &HostRuntime, work: Work, best: u64) -> anyhow::Result<()> {
     Ok(())
 }
 
-/// The nanoseconds of the shortest of so many rounds, at least 1.
+/// Returns the nanoseconds of the shortest of `rounds` rounds, at least 1.
 fn best_of<R: Row>(rt: &HostRuntime, row: &mut R, rounds: u32) -> anyhow::Result<u64> {
     let mut best = u64::MAX;
     let mut answers = 0u64;
@@ -61,14 +62,14 @@ fn best_of<R: Row>(rt: &HostRuntime, row: &mut R, rounds: u32) -> anyhow::Result
         let taken = start.elapsed(rt)?.as_nanos();
         best = best.min(u64::try_from(taken).unwrap_or(u64::MAX));
     }
-    // So the answers are used.
+    // The results are used.
     if answers == u64::MAX {
         println!(rt; "all answers together: {answers}")?;
     }
     Ok(best.max(1))
 }
 
-/// Octets a second, from the octets of some nanoseconds.
+/// Returns octets per second, from the octets of some nanoseconds.
 fn per_second(octets: u64, nanoseconds: u64) -> u128 {
     u128::from(octets) * 1_000_000_000 / u128::from(nanoseconds.max(1))
 }

@@ -1,4 +1,4 @@
-//! Values decoded by a schema that is data.
+//! Values decoded by the tables of a schema.
 
 use crate::row::{Row, Work};
 use asn1_schema::{Bounds, Length, Member, Node, Part, Presence, Range, Rows, Span, Tables};
@@ -16,8 +16,8 @@ fn up_to(range: u32) -> Node {
     }
 }
 
-/// The types: a SEQUENCE of four numbers, of 3, 13, 32 and 7 bits; and
-/// `VisibleString (FROM ("a".."z" | "A".."Z" | "-.")) (SIZE (1..64))`.
+/// Returns the types: a SEQUENCE of four numbers, of 3, 13, 32 and 7 bits; and `VisibleString (FROM
+/// ("a".."z" | "A".."Z" | "-.")) (SIZE (1..64))`.
 fn types() -> [Node; 6] {
     let numbers = Node::Sequence {
         root: Rows { from: 0, count: 4 },
@@ -102,7 +102,7 @@ pub struct Decoded {
 }
 
 impl Decoded {
-    /// The four numbers.
+    /// Returns the four numbers.
     pub fn numbers() -> Decoded {
         Decoded {
             message: &FOUR_NUMBERS,
@@ -111,7 +111,7 @@ impl Decoded {
         }
     }
 
-    /// The letters.
+    /// Returns the letters.
     pub fn letters() -> Decoded {
         Decoded {
             message: &LETTERS,

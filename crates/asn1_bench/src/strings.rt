@@ -43,7 +43,7 @@ impl Text {
     }
 }
 
-/// How many characters a hundred strings of these octets have.
+/// Returns how many characters a hundred strings of these octets have.
 fn read<S: StaticPermittedAlphabet>(alloc: Global, octets: &[u8]) -> u64 {
     let mut sum = 0u64;
     for _ in 0..100 {
@@ -111,7 +111,7 @@ impl Bits {
     }
 }
 
-/// How many characters a hundred strings of these bits have.
+/// Returns how many characters a hundred strings of these bits have.
 fn read_bits<S: StaticPermittedAlphabet>(alloc: Global, bits: BitStr<'_>) -> u64 {
     let mut sum = 0u64;
     for _ in 0..100 {

@@ -26,7 +26,7 @@ bits-zeros (suc k) =
     ∙ replicate-append-replicate 8 (8 * k) false
     ∙ (let e : 8 + 8 * k ≡ 8 * suc k = omega arith in ap (λ (n : ℕ). replicate n false) e)
 
--- so many bits are shown as the buffer counts
+-- as many bits are shown as the buffer counts
 pub length-bits_shown : (octets : List ℕ) (len : ℕ) → IsFilled octets len → length (bits_shown octets len) ≡ len
 unfolding bits_shown
 length-bits_shown octets len f = length-take len (bits octets) ∙ omega (arith, length-bits octets, f.count)

@@ -146,7 +146,7 @@ begun-small o h (suc i) =
       | inr past ↦ rw (get_or_past {X = ℕ} (replicate 7 0) i 0 (omega (arith, length-replicate {A = ℕ} 7 0))) (omega arith)
     ]
 
--- one octet and seven zeros encode the octets from a place on, where zeros are after the first of them
+-- one octet and seven zeros encode the octets from index q on, where zeros are after the first of them
 pub begun-bits : (octets begun : List ℕ) (q : ℕ) → begun ≡ get_or octets q 0 ∷ replicate 7 0
     → IsZeroFrom (8 * q + 8) (bits octets) → q + 8 ≤ length octets
     → bits begun ≡ bits (take 8 (drop q octets))

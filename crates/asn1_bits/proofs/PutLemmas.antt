@@ -18,7 +18,7 @@ use Rattle.asn1_bits.proofs.BufferLemmas.{length-bits_shown, filled_by}
 use Rattle.asn1_bits.proofs.EightLemmas.{eight-stored}
 use Rattle.asn1_bits.proofs.WindowLemmas.{moved, or-near, low-part}
 
--- a number moved to its place in a window of m octets by one shift, and ORed in
+-- a number moved to its offset in a window of m octets by one shift, and ORed in
 pub put-moved : (m : ℕ) (old new : List Bool) (place n width : ℕ) → 0 < width → place % 8 + width ≤ 8 * m
     → 8 * (place / 8) + 8 * m ≤ length old → n < 2 ^ width
     → new ≡ ored old (8 * (place / 8)) (digits (n * 2 ^ (8 * m - width - place % 8) % 2 ^ (8 * m)) (8 * m))
@@ -27,7 +27,7 @@ put-moved m old new place n width some fits room small e =
     or-near m old new place n width some fits room
     (e ∙ ap (λ (k : ℕ). ored old (8 * (place / 8)) (digits k (8 * m))) (moved (8 * m) n width (place % 8) fits small))
 
--- there it has no digit before its place
+-- there it has no digit before its offset
 pub moved-below : (size n width shift : ℕ) → shift + width ≤ size → n < 2 ^ width
     → n * 2 ^ (size - width - shift) % 2 ^ size < 2 ^ (size - shift)
 moved-below size n width shift fits small =
@@ -37,13 +37,13 @@ moved-below size n width shift fits small =
     let within : n * 2 ^ rest < 2 ^ size = omega (arith, below, pow_mono {i = size - shift} {j = size} (omega arith)) in
     rw (mod-eq_of_lt within) below
 
--- the place of the octet after the one where zeros begin
+-- the offset of the octet after the one where zeros begin
 pub zeros-behind_begun : (place : ℕ) (list : List Bool) → IsZeroFrom place list → 8 * (place / 8) + 8 ≤ length list
     → IsZeroFrom (8 * (place / 8) + 8) list
 zeros-behind_begun place list z h =
     zeros-later place (8 * (place / 8) + 8) list z (omega arith) h
 
--- bits that are ORed in before a place leave the zeros from it on
+-- bits that are ORed in before an offset leave the zeros from it on
 pub zeros-past : (old new src : List Bool) (place next : ℕ) → IsZeroFrom next old → new ≡ ored old place src
     → place + length src ≤ next → IsZeroFrom next new
 zeros-past old new src place next z e h =

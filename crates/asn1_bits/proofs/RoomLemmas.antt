@@ -80,7 +80,7 @@ room-step list after src place width z e n h =
       len = length-ored list place src;
     }
 
--- a list of zeros is room from any place on
+-- a list of zeros is room from any index on
 pub room-zeros : (place n : ℕ) → place ≤ n → IsZeroFrom place (replicate n false)
     × (take place (replicate n false) ≡ replicate place false)
 room-zeros place n h =

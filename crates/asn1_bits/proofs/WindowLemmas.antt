@@ -69,7 +69,7 @@ bits-or octets q octet h =
 
 -- ---- the window
 
--- a number whose bits below a place are zero
+-- a number whose `rest` lowest bits are zero
 pub shifted-digits : (a width rest : ℕ) → digits (a * 2 ^ rest) (width + rest) ≡ digits a width ++ replicate rest false
 shifted-digits a width rest =
     digits-append (a * 2 ^ rest) width rest
@@ -93,7 +93,7 @@ window_is n width rest shift =
     ∙ sym (mul_assoc (n % 2 ^ width) (2 ^ rest) (2 ^ shift)))
     ∙ shl-shr ((n % 2 ^ width) * 2 ^ rest) shift
 
--- a number is moved to a place in a word by one shift
+-- a number is moved to an offset in a word by one shift
 pub moved : (size n width shift : ℕ) → shift + width ≤ size → n < 2 ^ width
     → n * 2 ^ (size - width - shift) % 2 ^ size ≡ n * 2 ^ (size - width) % 2 ^ size / 2 ^ shift
 moved size n width shift fits small =
@@ -110,7 +110,7 @@ moved size n width shift fits small =
     ∙ ap (λ (k : ℕ). n * 2 ^ (rest + shift) % 2 ^ k / 2 ^ shift) (sym whole)
     ∙ ap (λ (j : ℕ). n * 2 ^ j % 2 ^ size / 2 ^ shift) (sym behind)
 
--- digits moved to a place in a window, with zeros round them
+-- digits moved to an offset in a window, with zeros around them
 pub window-digits : (n width rest shift : ℕ)
     → digits (n * 2 ^ (rest + shift) % 2 ^ (width + (rest + shift)) / 2 ^ shift) (shift + (width + rest)) ≡ replicate
     shift false ++ (digits n width ++ replicate rest false)
@@ -163,7 +163,7 @@ window-front m n width shift count octets h small e =
 
 -- ---- octet after octet
 
--- the bits at an octet's place are its digits
+-- the bits at an octet's index are its digits
 pub bits-octet : (octets : List ℕ) (k : ℕ) → k < length octets
     → take 8 (drop (8 * k) (bits octets)) ≡ digits (get_or octets k 0) 8
 unfolding bits

@@ -1,14 +1,14 @@
--- A list that is zeros from a place on.
+-- A list that is zeros from an index on.
 use Rattle.std.proofs.Common.{◌≡◌, ℕ, ◌+◌, ◌-◌, ◌≤◌, Bool, false, List, ◌++◌, length, take, drop, replicate, sym, ap, ◌∙◌, arith}
 use Rattle.std.proofs.lemmas.List.{length-take, take-append-drop, drop_at, drop-drop, drop-replicate}
 use Rattle.asn1_bits.specs.Bits.{IsZeroFrom}
 
--- what comes before the place, and the zeros
+-- what comes before the index, and the zeros
 pub zeros_behind : (place : ℕ) (list : List Bool) → IsZeroFrom place list
     → list ≡ take place list ++ replicate (length list - place) false
 zeros_behind place list z = sym (take-append-drop place list) ∙ ap (λ (l : List Bool). take place list ++ l) z.zero
 
--- what is after a place is zeros
+-- what is from an index on is zeros
 pub zero_from : (place : ℕ) (list : List Bool) → place ≤ length list
     → list ≡ take place list ++ replicate (length list - place) false → IsZeroFrom place list
 zero_from place list h e = record {
@@ -18,7 +18,7 @@ zero_from place list h e = record {
       (omega (arith, length-take place list));
 }
 
--- and so are those after a later place
+-- and so are those after a later index
 pub zeros-later : (place next : ℕ) (list : List Bool) → IsZeroFrom place list → place ≤ next → next ≤ length list
     → IsZeroFrom next list
 zeros-later place next list z from h = record {

@@ -1,4 +1,4 @@
--- Lists of bits: what numbers and octets encode. A bit is a truth value.
+-- Lists of bits: what numbers and octets encode. A bit is a Boolean.
 use Rattle.std.specs.Prelude.{◌≡◌, ℕ, zero, suc, ◌+◌, ◌-◌, ◌*◌, ◌/◌, ◌%◌, ◌≤◌, Bool, false, ◌||◌, ◌&&◌, if◌then◌else◌, ◌==◌, nat_le, List, [], ◌∷◌, ◌++◌, take, drop, map, length, replicate, slice_index_or}
 use Rattle.std.specs.List.{flat_map, fold, range_with_len}
 use Rattle.std.specs.Int.{div_ceil}
@@ -31,18 +31,18 @@ AddsNoOctet len more = octets_for (len + more) ≡ octets_for len
 abbrev pub padded : List Bool → List Bool
 padded list = list ++ replicate (8 * octets_for (length list) - length list) false
 
--- from a place on, the list is zeros
+-- from an index on, the list is zeros
 pub record IsZeroFrom (place : ℕ) (list : List Bool) : Type 0 where
   pub within : place ≤ length list
   pub zero : drop place list ≡ replicate (length list - place) false
 
--- old with src ORed in from a place on: place i is old's, or old's or that of src at i - place
+-- old with src ORed in from an index on: bit i is old's, or old's or that of src at i - place
 unfoldable pub ored : List Bool → ℕ → List Bool → List Bool
 ored old place src =
     map
     (λ i. slice_index_or old i false || (nat_le place i && slice_index_or src (i - place) false))
     (range_with_len 0 (length old))
 
--- old with the list written over it from a place on
+-- old with the list written over it from an index on
 unfoldable pub overwritten : List Bool → ℕ → List Bool → List Bool
 overwritten old place list = take place old ++ (list ++ drop (place + length list) old)

@@ -1,4 +1,4 @@
--- Turns: each places one word of at most 64 bits.
+-- Turns: each is for one word of at most 64 bits.
 use Rattle.std.specs.Prelude.{ℕ, ◌+◌, ◌/◌, ◌%◌}
 use Rattle.std.specs.Int.{div_ceil}
 

@@ -223,7 +223,7 @@ impl BitBuffer {
         Ok(())
     }
 
-    /// The general path of `push_bits`. Not inlined, so that callers inline only the path for short
+    /// Does what `push_bits` does. Not inlined, so that callers inline only the path for short
     /// numbers.
     #[inline(never)]
     fn push_digits(&mut self, value: u128, width: usize) -> Result<(), AllocError>

@@ -2,8 +2,8 @@
 //!
 //! `or_above_64`, `or_unaligned`, `copy_octets`, and in other modules `or_aligned` and `or_many_words`, are not
 //! inlined, so that their callers inline only the path for short views. They take the target by value
-//! and return it: through a reference, each word would load the place of the octets again. The view is
-//! lent, so that a call in tail position is a jump.
+//! and return it: through a reference, each word would load the address of the octets again. The view is
+//! borrowed, so that a call in tail position is a jump.
 
 ghost use Rattle.std.specs.Prelude.{◌≡◌, ◌+◌, ◌-◌, ◌*◌, ◌/◌, ◌%◌, ◌^◌, ◌++◌, pos, ◌<◌, ◌≤◌, ◌↔◌, length, take, drop, vec_len, OnOk, OnErr, IsOk, IsSome, IfSome, All};
 ghost use Rattle.std.specs.Int.{div_ceil};
@@ -53,7 +53,7 @@ pub fn write_bitslice(dst: &mut [u8], position: usize, src: BitStr<'_>, turns: &
     or_view(&mut Target::new(dst), position, src, turns);
 }
 
-/// The counted work of `write_bitslice`.
+/// Does the counted work of `write_bitslice`.
 #[inline(always)]
 fn or_view(dst: &mut Target<'_>, position: usize, src: BitStr<'_>, turns: &mut Turns)
     requires room { position + (view_of src).len ≤ 8 * length dst.old.octets.now }
@@ -73,13 +73,13 @@ fn or_view(dst: &mut Target<'_>, position: usize, src: BitStr<'_>, turns: &mut T
             *dst = or_near_end(dst.take(), position, src, turns);
         }
     } else {
-        // A copy is lent, so that the view itself stays in registers.
+        // A copy is borrowed, so that the view itself stays in registers.
         let lent = src;
         *dst = or_above_64(dst.take(), position, &lent, turns);
     }
 }
 
-/// The path of `or_view` for at most a word near the end of its storage. Cold and not inlined.
+/// Does what `or_view` does for at most a word near the end of its storage. Cold and not inlined.
 #[cold]
 #[inline(never)]
 fn or_near_end<'a>(
@@ -103,7 +103,7 @@ fn or_near_end<'a>(
     own
 }
 
-/// The path of `or_view` for no bits, and for more than a word.
+/// Does what `or_view` does for no bits, and for more than a word.
 #[inline(never)]
 fn or_above_64<'a>(
     target: Target<'a>,
@@ -133,7 +133,7 @@ fn or_above_64<'a>(
     or_unaligned(target, position, src, turns)
 }
 
-/// The path of `or_above_64` for bits that are not copied octet by octet. It needs more registers.
+/// Does what `or_above_64` does for bits that are not copied octet by octet. It needs more registers.
 #[inline(never)]
 fn or_unaligned<'a>(
     target: Target<'a>,
@@ -157,7 +157,7 @@ fn or_unaligned<'a>(
     own
 }
 
-/// The work of `or_unaligned`: whole words of 64 bits, and then the bits that are left.
+/// Does the work of `or_unaligned`: whole words of 64 bits, and then the bits that are left.
 #[inline(always)]
 fn or_each_word(dst: &mut Target<'_>, position: usize, src: BitStr<'_>, turns: &mut Turns)
     requires long { 64 < (view_of src).len }
@@ -222,7 +222,7 @@ pub(crate) fn put_bitslice(dst: &mut [u8], position: usize, src: BitStr<'_>, tur
     put_view(&mut Target::new(dst), position, src, turns);
 }
 
-/// The counted work of `put_bitslice`.
+/// Does the counted work of `put_bitslice`.
 #[inline(always)]
 fn put_view(dst: &mut Target<'_>, position: usize, src: BitStr<'_>, turns: &mut Turns)
     requires room { position + (view_of src).len ≤ 8 * length dst.old.octets.now }
@@ -265,7 +265,7 @@ fn copy_octets<'a>(target: Target<'a>, first: usize, src: &[u8], turns: &mut Tur
     own
 }
 
-/// The work of `copy_octets`: eight octets at a time, and then the rest.
+/// Does the work of `copy_octets`: eight octets at a time, and then the rest.
 #[inline(always)]
 fn copy_each_word(dst: &mut Target<'_>, first: usize, src: &[u8], turns: &mut Turns)
     requires room { first + length src.now ≤ length dst.old.octets.now }

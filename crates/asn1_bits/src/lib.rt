@@ -1,6 +1,6 @@
 //! Lists of bits: views of octets, buffers that grow, readers, and the kernels below them.
 //!
-//! A bit is a truth value, and octets hold their bits most significant first (X.690 8.1.3, X.691
+//! A bit is a Boolean, and octets hold their bits most significant first (X.690 8.1.3, X.691
 //! 11). Contracts model every type as a list of bits. A call that fails because it is out of memory
 //! changes nothing.
 //!

@@ -1,4 +1,4 @@
-//! Octets that are lent, or a copy.
+//! Octets that are borrowed or a copy.
 
 ghost use Rattle.std.specs.Prelude.{◌≡◌, ◌<◌, All};
 ghost use Rattle.asn1_bits.specs.Octets.{octets_in};
@@ -26,7 +26,7 @@ impl<'a> Octets<'a> {
     }
 }
 
-/// Returns the slice. Its contract tells callers that each item is below 256.
+/// Returns the slice. Its contract says that each item is below 256.
 pub(crate) fn known_octets(octets: &[u8]) -> &[u8]
     ensures list { result.now ≡ octets.now }
     ensures octets { All (λ octet. octet < 256) octets.now }

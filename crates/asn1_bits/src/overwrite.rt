@@ -49,7 +49,7 @@ pub fn overwrite_number(
     overwrite_digits(&mut Target::new(dst), position, value, width, turns);
 }
 
-/// The counted work of `overwrite_number`: one word, or two.
+/// Does the counted work of `overwrite_number`: one word, or two.
 #[inline(always)]
 fn overwrite_digits(
     dst: &mut Target<'_>,

@@ -50,7 +50,7 @@ fn digits_from(high: u64, low: u64, shift: usize) -> u64
     ensures { digits result 64 ≡ take 64 (drop shift (digits high 64 ++ digits low 64)) }
 {
     let both = (u128::from(high) << 64) | u128::from(low);
-    // The remainder tells the compiler that the shift is below 64. It costs no instruction: a
+    // The remainder shows the compiler that the shift is below 64. It costs no instruction: a
     // processor that shifts two words together takes it by itself.
     ((both << (shift % 64)) >> 64) as u64
 }
@@ -94,8 +94,8 @@ pub(crate) fn read_word(octets: &[u8], first: usize, shift: usize, width: usize)
     }
 }
 
-/// The path of `read_word` for so few bits that they lie within eight octets, which are loaded
-/// where all of them are there.
+/// Does what `read_word` does for so few bits that they lie within eight octets, which are loaded
+/// where all of them exist.
 #[inline(always)]
 pub(crate) fn read_57(octets: &[u8], first: usize, shift: usize, width: usize) -> u64
     requires shift { shift < 8 }
@@ -109,7 +109,7 @@ pub(crate) fn read_57(octets: &[u8], first: usize, shift: usize, width: usize) -
     read_57_near_end(octets, first, shift, width)
 }
 
-/// The path of `read_word` for so many bits that eight octets are there, and that may reach a
+/// Does what `read_word` does for more than 57 bits: eight octets exist. The bits may reach a
 /// ninth.
 #[inline(always)]
 pub(crate) fn read_64(octets: &[u8], first: usize, shift: usize, width: usize) -> u64
@@ -150,7 +150,7 @@ pub(crate) fn read_128<const INLINE_NEAR_END: bool>(
     read_128_near_end(octets, first, shift, width)
 }
 
-/// The path of `read_128` for seventeen octets, which are loaded at once.
+/// Does what `read_128` does for seventeen octets, which are loaded at once.
 #[inline(always)]
 fn read_seventeen(octets: &[u8], first: usize, shift: usize, width: usize) -> u128
     requires shift { shift < 8 }
@@ -159,11 +159,11 @@ fn read_seventeen(octets: &[u8], first: usize, shift: usize, width: usize) -> u1
     requires seventeen { first + 17 ≤ length octets.now }
     ensures { result ≡ number (take width (drop (8 * first + shift) (bits octets.now))) }
 {
-    // The remainder tells the compiler that the shift is below 64.
+    // The remainder shows the compiler that the shift is below 64.
     wide_of_seventeen(octets, first, shift) >> ((128 - width) % 64)
 }
 
-/// The path of `read_128` near the end of the octets: two words.
+/// Does what `read_128` does near the end of the octets: two words.
 #[inline(always)]
 fn read_two_words(octets: &[u8], first: usize, shift: usize, width: usize) -> u128
     requires shift { shift < 8 }
@@ -178,7 +178,7 @@ fn read_two_words(octets: &[u8], first: usize, shift: usize, width: usize) -> u1
     (u128::from(high >> (128 - width)) << 64) | u128::from(rest)
 }
 
-/// `read_two_words`, cold and not inlined.
+/// Does what `read_two_words` does. Cold and not inlined.
 #[cold]
 #[inline(never)]
 fn read_128_near_end(octets: &[u8], first: usize, shift: usize, width: usize) -> u128
@@ -191,7 +191,7 @@ fn read_128_near_end(octets: &[u8], first: usize, shift: usize, width: usize) ->
     read_two_words(octets, first, shift, width)
 }
 
-/// The path of `read_57` for the last octets of a slice, and for no bits. Cold and not inlined.
+/// Does what `read_57` does for the last octets of a slice, and for no bits. Cold and not inlined.
 #[cold]
 #[inline(never)]
 fn read_57_near_end(octets: &[u8], first: usize, shift: usize, width: usize) -> u64

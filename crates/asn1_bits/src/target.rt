@@ -46,7 +46,7 @@ impl<'a> Target<'a> {
     }
 
     /// Takes the octets and their count out, and leaves none after. A loop over a target of its
-    /// own keeps the place of the octets in registers; through a reference it is loaded for each
+    /// own keeps the address of the octets in registers; through a reference it is loaded for each
     /// word, since a store might have changed it.
     #[inline(always)]
     pub(crate) fn take(&mut self) -> Target<'a>

@@ -95,7 +95,7 @@ pub(crate) fn put_digits(
     put_in(&mut Target::new(dst), position, number, width, turns);
 }
 
-/// The counted work of `put_digits`.
+/// Does the counted work of `put_digits`.
 #[inline(always)]
 fn put_in(dst: &mut Target<'_>, position: usize, number: u128, width: usize, turns: &mut Turns)
     requires width { width ≤ 128 }
@@ -129,7 +129,7 @@ fn put_in(dst: &mut Target<'_>, position: usize, number: u128, width: usize, tur
     }
 }
 
-/// The path of `put_digits` for digits that reach the last octets of the slice, or a seventeenth
+/// Does what `put_digits` does for digits that reach the last octets of the slice, or a seventeenth
 /// octet: words are ORed in. Not inlined.
 #[inline(never)]
 fn put_apart(dst: &mut Target<'_>, position: usize, number: u128, width: usize, turns: &mut Turns)
@@ -179,7 +179,7 @@ pub(crate) fn or_words(
     }
 }
 
-/// The path of `or_words` for bits that begin at bit `shift` of the first word: each word is made
+/// Does what `or_words` does for bits that begin at bit `shift` of the first word: each word is made
 /// of two.
 pub(crate) fn or_shifted_words(
     dst: &mut Target<'_>,
@@ -209,7 +209,7 @@ pub(crate) fn or_shifted_words(
     }
 }
 
-/// The path of `or_shifted_words` for many words, which are joined in vectors of two. Not inlined
+/// Does what `or_shifted_words` does for many words, which are joined in vectors of two. Not inlined
 /// and cold, so that the path for few words keeps its registers.
 #[cold]
 #[inline(never)]
@@ -247,7 +247,7 @@ fn or_many_words<'a>(
     own
 }
 
-/// The loop of `or_shifted_words`. `back` is what `shift` leaves of 64.
+/// Runs the loop of `or_shifted_words`. `back` is what `shift` leaves of 64.
 #[inline(always)]
 fn or_joined_words(
     dst: &mut Target<'_>,

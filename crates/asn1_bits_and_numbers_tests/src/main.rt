@@ -1,10 +1,10 @@
 //! Tests of bits, whole numbers, number types and object identifiers: a program that answers the
 //! rows of its stored input.
 //!
-//! A row's call is named by a type and a function of `asn1_bits`, `asn1_number`, `asn1_integer` or
-//! `asn1_oid`, as `BitStr::len A55A:4:8 = 8` and `u8::checked_add 255 1 = none`, or by a function
-//! of `asn1_bits` alone. `IntegerType::` is that trait at `Integer`. What a call requires is tested
-//! before it: a row that does not meet it is rejected.
+//! A row calls a function of a type of `asn1_bits`, `asn1_number`, `asn1_integer` or `asn1_oid`,
+//! such as `BitStr::len A55A:4:8 = 8` and `u8::checked_add 255 1 = none`, or a function of
+//! `asn1_bits` without a type. `IntegerType::` is that trait for `Integer`. Preconditions are
+//! tested before the call: a row that violates one is rejected.
 #![tactic(auto)]
 
 mod bits;
@@ -15,7 +15,7 @@ use std::alloc::Global;
 use std::io::BufReader;
 use std::process::ExitCode;
 
-/// The calls of the four crates.
+/// Answers the calls of the four crates.
 struct Calls;
 
 impl Answers for Calls {

@@ -14,7 +14,7 @@ mod typed;
 use asn1_test_rows::{RowError, one};
 use std::alloc::Global;
 
-/// The answer of a function of a type or a module.
+/// Returns the answer to a call of a function of a type or a module.
 pub fn answer(alloc: Global, owner: &str, name: &str, words: &[&str]) -> Result<String, RowError> {
     match owner {
         "Integer" => integers::answer(alloc, name, words),

@@ -27,7 +27,7 @@ unfolding arcs_from
 length-arcs_from-append [] ms = omega arith
 length-arcs_from-append (x ∷ xs) ms = omega (arith, length-append xs ms)
 
--- all numbers are there, and fit
+-- all numbers are present, and fit
 pub record AllFit (octets : List ℕ) (arcs : List ℕ) : Type 0 where
   pub first : ℕ
   pub others : List ℕ
@@ -57,7 +57,7 @@ pub all_fit : (octets arcs : List ℕ) → contents_reading octets ≡ Ok arcs �
 unfolding contents_reading
 all_fit octets arcs e = all_fit_of octets arcs (numbers_of octets) refl e
 
--- up to a place of the octets, numbers are done, and one may have begun, whose number is told as far as it can fit
+-- up to index i of the octets, numbers are done, and one may have begun, whose number is told as far as it can fit
 pub record Reads (octets : List ℕ) (i told : ℕ) (arcs : List ℕ) : Type 0 where
   pub begun : Bool
   pub n : ℕ
@@ -134,7 +134,7 @@ splits all done n (Some ns) e = record { rest = ns; parts = some_is _ _ e }
     some_is a b i = cc
 splits all done n None e = absurd (some_is_no_none _ e)
 
--- what an octet that ends a subidentifier gives
+-- what follows from an octet that ends a subidentifier
 pub record Ends (octets : List ℕ) (i told : ℕ) (arcs all : List ℕ) : Type 0 where
   pub first : arcs ≡ [] → told ≤ 4294967375
   pub other : arcs ≢ [] → told < 2 ^ 32
@@ -286,7 +286,7 @@ some_before room count le ne e = let n : length (take count room) ≡ 0 =
 
 -- ---- arcs that are counted
 
--- up to a place of the octets so many arcs are done
+-- up to index `i` of the octets `count` arcs are done
 pub record Counted (octets : List ℕ) (i count : ℕ) : Type 0 where
   pub told : ℕ
   pub arcs : List ℕ

@@ -1,4 +1,4 @@
--- Characters at a place of the octets.
+-- Characters at an offset of the octets.
 use Rattle.std.proofs.Common.{◌≡◌, ℕ, ◌+◌, ◌-◌, ◌*◌, ◌<◌, ◌≤◌, List, length, take, drop, refl, sym, ap, subst, ◌∙◌, arith}
 use Rattle.asn1_bits.specs.Bits.{digits, number, bits}
 use Rattle.asn1_alphabets.specs.Alphabet.{Alphabet, IsCode}

@@ -65,7 +65,7 @@ pub all_bits : (o : List ℕ) (s : Span) → s.at ≡ 0 → s.count ≡ 8 * leng
 all_bits o s at count =
     ap (λ (k : ℕ). take s.count (drop k (bits o))) at ∙ take_all s.count (bits o) (omega (arith, count, length-bits o))
 
--- a part that shows a truth value is this one
+-- a part that shows a Boolean is this one
 pub truth_of : (list : List Bool) (p : Part) (b : Bool) → piece_of [] list p ≡ Truth b → p ≡ part.Truth b
 truth_of list part.Absent b e = cc
 truth_of list part.Null b e = cc
@@ -76,6 +76,7 @@ truth_of list (part.Signed s) b e = cc
 truth_of list (part.Enumerated i) b e = cc
 truth_of list (part.UnknownEnumerated i) b e = cc
 truth_of list (part.Bits s) b e = cc
+truth_of list (part.BitsInFragments f) b e = cc
 truth_of list (part.Octets s) b e = cc
 truth_of list (part.OctetsInFragments f) b e = cc
 truth_of list (part.Text text) b e = cc

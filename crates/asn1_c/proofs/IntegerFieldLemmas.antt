@@ -1,4 +1,4 @@
--- Integers at a place of the octets.
+-- Integers at an offset of the octets.
 use Rattle.std.proofs.Common.{◌≡◌, ℕ, ◌+◌, ◌-◌, ◌*◌, ◌^◌, ◌<◌, ◌≤◌, ℤ, Bool, List, [], ◌∷◌, ◌++◌, length, take, drop, get_or, refl, sym, ap, subst, ◌∙◌, arith, inl, inr, true, false, to_z-of_z}
 use Rattle.std.specs.Prelude.{All, IsTrue, not}
 use mir.Val.{SFits, to_z, of_z}
@@ -89,7 +89,7 @@ module _ (octets : List ℕ) (at count : ℕ) (some : 0 < count) (le : at + 8 * 
       (subst (λ (y : ℕ). RepeatsSign a y) (is_b ∙ sym (second_here two)) r))
       (nine_bits_from_shortest n (octets_at octets at count) s)
 
-  -- the last octets of the number that was read are those at the place
+  -- the last octets of the number that was read are those at the offset
   pub octets_of_word : (n : ℕ) (word : List ℕ) → count ≤ 16 → digits n (8 * count) ≡ take (8 * count) (drop at (bits octets))
       → word ≡ to_be_bytes w128 n → drop (16 - count) word ≡ octets_at octets at count
   octets_of_word n word few is w =

@@ -39,7 +39,7 @@ bits-octets_of (suc n) list le =
     ∙ ap (λ (l : List Bool). take 8 list ++ l) others ∙ sym (take-add 8 (8 * n) list)
     ∙ ap (λ (k : ℕ). take k list) (sym more)
 
--- the octet at a place
+-- the octet at an index
 pub get_or-octets_of : (n i : ℕ) (list : List Bool) → i < n
     → get_or (octets_of n list) i 0 ≡ number (take 8 (drop (8 * i) list))
 get_or-octets_of zero i list lt = absurd (omega arith)
@@ -59,7 +59,7 @@ pub All_from_IsOctets : (octets : List ℕ) → IsOctets octets → All (λ octe
 All_from_IsOctets [] h = All-nil (λ octet. octet < 256)
 All_from_IsOctets (x ∷ xs) h = All-cons (λ octet. octet < 256) x xs h.0 (All_from_IsOctets xs h.1)
 
--- ---- octets at a place
+-- ---- octets at an offset
 
 pub length-left : (octets : List ℕ) (at : ℕ) → length (drop at (bits octets)) ≡ 8 * length octets - at
 length-left octets at = length-drop at (bits octets) ∙ ap (λ (k : ℕ). k - at) (length-bits octets)
@@ -102,7 +102,7 @@ module _ (octets : List ℕ) (at count : ℕ) (le : at + 8 * count ≤ 8 * lengt
       ∙ ap (λ (k : ℕ). take i (octets_at octets at count) ++ k ∷ []) here
       ∙ sym (take_more (octets_at octets at count) i 0 (omega arith))
 
--- so many octets are encoded by their bits
+-- `n` octets are encoded by their bits
 pub octets_spelled : (n : ℕ) (list : List Bool) → length list ≡ 8 * n
     → (o : List ℕ) × (length o ≡ n) × IsSpelledBy (plain.Octets o) list
 octets_spelled n list e = (

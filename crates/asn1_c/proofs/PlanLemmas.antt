@@ -161,7 +161,7 @@ module _ (source : List ℕ) (f : Field) (p : Plan) (no_octet : p.lead ≡ 0) (n
     lies = λ e. lies_there;
   }
 
-  -- what is read at the place in the source, and as long as the field says
+  -- what is read at the offset in the source, and as long as the field says
   pub read_named : (shape : plain.Shape) (g : Field) → IsSpelledAt source f.first shape g → g.length ≡ f.length
       → by_number shape f ≡ false → IsNamedAs source shape f (planned source p)
   read_named shape g s same far = record {

@@ -38,11 +38,11 @@ fits_one Visible c other h = fits_octets Visible c h
 pub fits_two : (name : CharacterSetName) (c : ℕ) → name ≡ Bmp → has_character (base_set name) c ≡ true → c < 65536
 fits_two name c is h = fits_octets Bmp c (subst (λ n. has_character (base_set n) c ≡ true) is h)
 
--- the character of a turn is the one at its place
+-- the character of a turn is the one at its index
 pub at_place : (cs : List ℕ) (n c : ℕ) → (n < length cs) × (c ≡ get_or cs n c) → c ≡ slice_index cs n
 at_place cs n c t = t.1 ∙ get_or_default cs n c 0 t.0
 
--- what holds of each character before a place, and of the one there, holds before the next
+-- what holds of each character before an index, and of the one at it, holds before the next
 pub right_more : (P : ℕ → Type 0) (n : ℕ) → ((j : ℕ) → j < n → P j) → P n → (j : ℕ) → j < n + 1 → P j
 right_more P n before here j lt =
     ⊎_elim (λ less. before j less) (λ more. let is : n ≡ j = omega arith in subst P is here) (cases_lt j n)

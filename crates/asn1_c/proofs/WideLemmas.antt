@@ -13,7 +13,7 @@ pub past_i128 : (n : ℤ) (o : List ℕ) → IsShortest n o → 16 < length o �
 past_i128 n o s more r =
     past_sixteen o s.octets (nine_bits_from_shortest n o s) more (subst (IsInRange (SignedOf 16)) (sym s.value) r)
 
--- a number of 64 bits without a sign is one of 128 bits with one
+-- an unsigned number of 64 bits is a signed one of 128 bits
 pub u64_in_i128 : (n : ℤ) → IsInRange kind_u64 n → IsInRange (SignedOf 16) n
 u64_in_i128 n r = let low = r.0 in let high = r.1 in (omega (arith, ints), omega (arith, ints))
 
@@ -30,7 +30,7 @@ too_many size n (b ∷ bs) sized s more r =
     ⊎_elim (λ low. let d = rw (lt-leb 128 b low, c) at e in absurd cc)
     (λ high. let d = rw (le-leb 128 b high) at e in absurd cc) (cases_lt b 128)
 
--- shortest octets of a number without a sign are at most one more than its type has
+-- shortest octets of an unsigned number are at most one more than its type has
 pub one_more_at_most : (size : ℕ) (n : ℤ) (o : List ℕ) → 1 ≤ size → IsShortest n o → IsInRange (UnsignedOf size) n
     → length o ≤ size + 1
 one_more_at_most size n o sized s r = elim (cases_lt (size + 1) (length o)) [

@@ -10,7 +10,7 @@ use Rattle.asn1_x690.specs.declared.tables.Identifier.{Identifier}
 use Rattle.asn1_x690.specs.Elements.{any_element}
 use Rattle.asn1_c.specs.declared.elements.Element.{Element}
 
--- so many octets from an offset on
+-- `count` octets from an offset on
 abbrev pub part : List ℕ → ℕ → ℕ → List ℕ
 part octets first count = take count (drop first octets)
 

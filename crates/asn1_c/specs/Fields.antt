@@ -13,7 +13,7 @@ use Rattle.asn1_c.specs.declared.fields.Field.{Field}
 use Rattle.asn1_c.specs.declared.fields.Refusal.{Refusal}
 use Rattle.asn1_c.specs.Sets.{alphabet_at}
 
--- the shape of C's numbers; that of a character has the place of its alphabet
+-- the shape of C's numbers; that of a character has the index of its alphabet
 abbrev pub shape_named : List Alphabet → Shape → Option plain.Shape
 shape_named alphabets s =
     if s.kind == 0 then Some (plain.OfNumber s.count)
@@ -55,7 +55,7 @@ Tells (plain.CountedInteger n) f = TellsInteger 8 n f
 Tells (plain.Character alphabet c) f = (f.low ≡ c) × IsCode alphabet c f.high
 Tells field f = TellsNone f
 
--- bits of the octets, from a place on, encode a field of the shape, and C receives it
+-- bits of the octets, from an offset on, encode a field of the shape, and C receives it
 pub record IsSpelledAt (octets : List ℕ) (from : ℕ) (shape : plain.Shape) (f : Field) : Type 0 where
   pub field : plain.Field
   pub of_shape : IsOfShape field shape
@@ -68,7 +68,7 @@ abbrev pub IsReadAt : List ℕ → List Alphabet → ℕ → Shape → Field →
 IsReadAt octets alphabets from s f =
     (shape : plain.Shape) × (shape_named alphabets s ≡ Some shape) × IsSpelledAt octets from shape f
 
--- fields of the shapes are read one after another, from a place up to another
+-- fields of the shapes are read one after another, from an offset up to another
 abbrev pub AreReadAt : List ℕ → List Alphabet → ℕ → List Shape → List Field → ℕ → Type 0
 AreReadAt octets alphabets from [] [] to = from ≡ to
 AreReadAt octets alphabets from (s ∷ ss) (f ∷ fs) to =

@@ -3,6 +3,6 @@ use Rattle.std.specs.Prelude.{ℕ, List, drop}
 use Rattle.asn1_bits.specs.Bits.{bits}
 use Rattle.asn1_values.specs.Walk.{octets_of}
 
--- so many octets, from a bit on
+-- `count` octets, from a bit on
 abbrev pub octets_at : List ℕ → ℕ → ℕ → List ℕ
 octets_at octets at count = octets_of count (drop at (bits octets))

@@ -20,19 +20,19 @@ set_named kind =
 abbrev pub character_count : CharacterSetName → List ℕ → ℕ
 character_count name octets = length octets / character_octets name
 
--- the character at a place: one octet, or two, most significant first
+-- the character at an index: one octet, or two, most significant first
 abbrev pub character_at : CharacterSetName → List ℕ → ℕ → ℕ
 character_at Bmp octets i = 256 * slice_index octets (2 * i) + slice_index octets (2 * i + 1)
 character_at name octets i = slice_index octets i
 
--- the first characters of a string's octets, so many of them, and all of them
+-- the first `n` characters of a string's octets, and all of them
 abbrev pub characters_before : CharacterSetName → List ℕ → ℕ → List ℕ
 characters_before name octets n = map (character_at name octets) (range_with_len 0 n)
 
 abbrev pub characters : CharacterSetName → List ℕ → List ℕ
 characters name octets = characters_before name octets (character_count name octets)
 
--- whether each character of the string has the number that Unicode gives it: those of ISO 646 and
+-- whether each character of the string has its Unicode number: those of ISO 646 and
 -- those of two octets (ISO/IEC 10646)
 abbrev pub is_unicode : CharacterSetName → Bool
 is_unicode Bmp = true
@@ -76,6 +76,6 @@ alphabet_in a =
     if a.permitted && nat_lt (2 ^ 32) (length a.set.now) then None
     else alphabet_named a.kind a.permitted a.set.now a.aligned
 
--- the alphabet at a place of C's list
+-- the alphabet at an index of C's list
 abbrev pub alphabet_at : List InC → ℕ → Option Alphabet
 alphabet_at alphabets i = option_and_then alphabet_in (slice_get alphabets i)

@@ -33,7 +33,7 @@ IsNumberOf f field = ⊥
 abbrev pub LieIn : List ℕ → Field → List Bool → Type 0
 LieIn source f list = (end_of f ≤ 8 * length source) × (list ≡ take f.length (drop f.first (bits source)))
 
--- the bits encode a field of the shape, which C names by its number or by its place in the source
+-- the bits encode a field of the shape, which C names by its number or by its index in the source
 pub record IsNamedAs (source : List ℕ) (shape : plain.Shape) (f : Field) (list : List Bool) : Type 0 where
   pub field : plain.Field
   pub of_shape : IsOfShape field shape
@@ -80,7 +80,7 @@ IsMisread source shape need f r =
     IsMisplaced source need f r
     ⊎ ((f.length ≡ need) × (end_of f ≤ 8 * length source) × NamesReason shape (drop f.first (bits source)) r)
 
--- the shortest octets of the field's number are not so many
+-- the shortest octets of the field's number are not `count`
 abbrev pub IsMiscounted : ℕ → Field → Refusal → Type 0
 IsMiscounted count f r =
     (octets : List ℕ) × IsShortest (signed_of_words f.high f.low) octets × Says r 17 (length octets)
@@ -106,7 +106,7 @@ IsWrong source (plain.OfCharacter alphabet) f r =
 IsWrong source plain.OfCountedInteger f r = (136 < f.length) × IsMiscountedThere source f r
 IsWrong source (plain.OfIdentifier count) f r = IsMisread source (plain.OfIdentifier count) (8 * count) f r
 
--- the numbers are those of no shape, or the field is wrong
+-- the numbers are those of no shape, or the field is invalid
 abbrev pub IsUnnamed : List ℕ → List Alphabet → Shape → Field → Refusal → Type 0
 IsUnnamed source alphabets s f r =
     (Says r 21 0 × (shape_named alphabets s ≡ None))

@@ -70,7 +70,7 @@ fn alphabet_for<'s>(
 }
 
 /// Fills the alphabet of a string. The set is the permitted one where `permitted` says so, otherwise it is
-/// not looked at. The alphabet refers to the set, and copies none of it.
+/// not read. The alphabet refers to the set, and copies none of it.
 #[unsafe(no_mangle)]
 pub extern "C" fn asn1v_alphabet_new<'s>(
     kind: u32,
@@ -103,7 +103,7 @@ pub extern "C" fn asn1v_alphabet_new<'s>(
     KIND
 }
 
-/// The code of a character in an alphabet.
+/// Encodes a character in an alphabet.
 #[unsafe(no_mangle)]
 pub extern "C" fn asn1v_alphabet_encode(
     alphabet: &Alphabet<'_>,
@@ -130,7 +130,7 @@ pub extern "C" fn asn1v_alphabet_encode(
     }
 }
 
-/// The character of a code in an alphabet.
+/// Decodes a code of an alphabet.
 #[unsafe(no_mangle)]
 pub extern "C" fn asn1v_alphabet_decode(
     alphabet: &Alphabet<'_>,
@@ -157,7 +157,7 @@ pub extern "C" fn asn1v_alphabet_decode(
     }
 }
 
-/// How many bits each code of an alphabet takes, at most 32.
+/// Returns how many bits each code of an alphabet takes, at most 32.
 #[unsafe(no_mangle)]
 pub extern "C" fn asn1v_alphabet_width(alphabet: &Alphabet<'_>, width: &mut usize) -> u32
     ensures width { (a : Plain) → alphabet_in alphabet.now ≡ Some a → result ≡ 0

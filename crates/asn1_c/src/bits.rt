@@ -37,7 +37,7 @@ impl Words {
     }
 }
 
-/// Returns whether so many bits from an index on are in so many octets. Octets are compared, since
+/// Returns whether `count` bits from an index on are in `octets` octets. Octets are compared, since
 /// bits may exceed `usize`.
 #[inline(always)]
 fn lie_within(place: usize, count: usize, octets: usize) -> bool
@@ -48,8 +48,8 @@ fn lie_within(place: usize, count: usize, octets: usize) -> bool
     whole + rest <= octets
 }
 
-/// The number of `width` bits, at most 64, from bit `position` of the octets on, the first of them
-/// its highest digit.
+/// Reads the number of `width` bits, at most 64, from bit `position` of the octets on. The first is
+/// the most significant.
 #[unsafe(no_mangle)]
 pub extern "C" fn asn1v_read_u64(
     octets: &[u8],
@@ -74,7 +74,7 @@ pub extern "C" fn asn1v_read_u64(
     DONE
 }
 
-/// As `asn1v_read_u64`, of at most 128 bits.
+/// Reads a number as `asn1v_read_u64` does, of at most 128 bits.
 #[unsafe(no_mangle)]
 pub extern "C" fn asn1v_read_u128(
     octets: &[u8],

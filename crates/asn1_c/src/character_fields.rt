@@ -10,7 +10,7 @@ use crate::codes::CODE;
 use crate::fields::{Field, Refusal, field_at};
 use asn1_values::{CharacterAlphabet, read_wide};
 
-/// Reads a character of the alphabet, and tells its code with it.
+/// Reads a character of the alphabet, and returns its code with it.
 pub(crate) fn read_character(
     octets: &[u8],
     at: usize,

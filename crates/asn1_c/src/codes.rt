@@ -1,4 +1,4 @@
-//! What exports answer.
+//! What exports return.
 
 ghost use Rattle.std.specs.Prelude.{◌≡◌};
 ghost use Rattle.asn1_c.specs.Codes.{order_number};

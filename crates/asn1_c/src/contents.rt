@@ -1,4 +1,4 @@
-//! The contents octets of primitive elements of DER (X.690 8.2, 8.6, 11.7, 11.8): truth values,
+//! The contents octets of primitive elements of DER (X.690 8.2, 8.6, 11.7, 11.8): Booleans,
 //! strings of bits, times.
 
 ghost use Rattle.std.specs.Prelude.{◌≡◌, ◌≢◌, ◌↔◌, ◌⊎◌, ◌+◌, ◌*◌, ◌^◌, ◌<◌, ◌≤◌, ℕ, Bool, List, length, take, drop, slice_index};
@@ -41,7 +41,7 @@ fn whole(octets: &[u8]) -> Span
     }
 }
 
-/// Reads the truth value that the contents of a BOOLEAN are (X.690 8.2, 11.1).
+/// Reads the Boolean that the contents of a BOOLEAN are (X.690 8.2, 11.1).
 #[unsafe(no_mangle)]
 pub extern "C" fn asn1v_der_boolean(octets: &[u8], value: &mut bool) -> u32
     ensures read { result ≡ 0 → IsBoolean value.new (bits octets.now) }

@@ -56,7 +56,7 @@ fn code_of(kind: FaultKind) -> u32
     }
 }
 
-/// Tells of the element that begins at the position: its tag, where its contents octets lie, and where
+/// Reads the element that begins at the position: its tag, where its contents octets lie, and where
 /// the next element begins. The contents octets are not examined.
 #[unsafe(no_mangle)]
 pub extern "C" fn asn1v_der_next(octets: &[u8], position: usize, element: &mut Element) -> u32

@@ -73,7 +73,7 @@ impl Refusal {
     }
 }
 
-/// Returns a field of so many bits from an index on, without a number, if the octets have them.
+/// Returns a field of `need` bits from an index on, without a number, if the octets have them.
 pub(crate) fn field_at(octets: &[u8], at: usize, need: u128, field: usize) -> Result<Field, Refusal>
     requires few { 8 * length octets.now < 2 ^ 64 }
     requires within { at ≤ 8 * length octets.now }
@@ -248,7 +248,7 @@ fn read_one(
     }
 }
 
-/// Reads fields of the shapes one after another, from bit `position` on, and tells the first bit
+/// Reads fields of the shapes one after another from bit `position` on, and returns the first bit
 /// after them. An error names the first invalid field; those before it were read.
 #[unsafe(no_mangle)]
 pub extern "C" fn asn1v_read_fields(

@@ -12,7 +12,7 @@ use crate::fields::{Field, Refusal, field_at};
 use crate::identifiers::code_of_contents;
 use crate::octets_at::OctetsAt;
 
-/// Returns whether so many octets from a bit on are the contents of an identifier whose arcs all
+/// Returns whether `count` octets from a bit on are the contents of an identifier whose arcs all
 /// fit 32 bits.
 pub(crate) fn code_at(octets: &[u8], at: usize, count: usize) -> u32
     requires few { 8 * length octets.now < 2 ^ 64 }
@@ -28,7 +28,7 @@ pub(crate) fn code_at(octets: &[u8], at: usize, count: usize) -> u32
     code_of_contents(&OctetsAt::new(octets, at, count))
 }
 
-/// Reads an identifier whose contents have so many octets.
+/// Reads an identifier whose contents have `count` octets.
 pub(crate) fn read_identifier(
     octets: &[u8],
     at: usize,

@@ -9,7 +9,7 @@ ghost use Rattle.asn1_c.specs.Arcs.{more_arcs};
 use crate::codes::{ARC_COUNT, ARC_TOO_LARGE, ARCS, DONE, MALFORMED, ROOM, TOO_MANY};
 use asn1_values::{ContentsError, OctetSource, Oid, OidContents, check_contents};
 
-/// Whether the octets are the contents of an identifier whose arcs all fit 32 bits.
+/// Checks that the octets are the contents of an identifier whose arcs all fit 32 bits.
 #[unsafe(no_mangle)]
 pub extern "C" fn asn1v_oid_check(octets: &[u8]) -> u32
     ensures done { result ≡ 0
@@ -22,7 +22,7 @@ pub extern "C" fn asn1v_oid_check(octets: &[u8]) -> u32
     code_of_contents(&octets)
 }
 
-/// `asn1v_oid_check` of any list of octets.
+/// Checks any list of octets as `asn1v_oid_check` does.
 pub(crate) fn code_of_contents<S: OctetSource>(source: &S) -> u32
     ensures done { result ≡ 0
         ↔ ((arcs : List ℕ) × IsContents arcs (S.list source.now) × FitU32 arcs) }
@@ -39,7 +39,7 @@ pub(crate) fn code_of_contents<S: OctetSource>(source: &S) -> u32
     }
 }
 
-/// Whether the arcs are those of an identifier.
+/// Checks that the arcs are those of an identifier.
 #[unsafe(no_mangle)]
 pub extern "C" fn asn1v_oid_check_arcs(arcs: &[u32]) -> u32
     ensures done { result ≡ 0 ↔ IsValidArcs arcs.now }
@@ -92,7 +92,7 @@ pub extern "C" fn asn1v_oid_contents(arcs: &[u32], room: &mut [u8], count: &mut 
 /// The largest number of a first subidentifier: 40 times 2, and the largest arc.
 const LARGEST_FIRST: u64 = 4_294_967_375;
 
-/// Writes the arcs of which the octets are the contents to the front of the room, and tells how
+/// Writes the arcs that contents octets encode to the front of the room, and returns how
 /// many, also where the room is too small. One arc more than there are octets is always enough.
 #[unsafe(no_mangle)]
 pub extern "C" fn asn1v_oid_arcs(octets: &[u8], room: &mut [u32], count: &mut usize) -> u32
@@ -154,7 +154,7 @@ fn next_count(count: usize) -> usize
     if count == 0 { 2 } else { count + 1 }
 }
 
-/// Writes the arcs of contents, if there is room for them, and tells how many.
+/// Writes the arcs of contents, if there is room for them, and returns how many.
 fn write_arcs(octets: &[u8], room: &mut [u32]) -> Option<usize>
     requires { (arcs : List ℕ) × (contents_reading octets.now ≡ Ok arcs) }
     ensures within { IfSome result (λ k. k ≤ length room.new) }

@@ -63,7 +63,7 @@ fn with_value(place: &Field, octets: &[u8], at: usize, count: usize) -> Field
     place.with_number(value_at(octets, at, count).cast_unsigned())
 }
 
-/// Reads an integer of so many octets.
+/// Reads an integer of `count` octets.
 pub(crate) fn read_integer(
     octets: &[u8],
     at: usize,
@@ -120,7 +120,7 @@ pub(crate) fn read_counted(octets: &[u8], at: usize, field: usize) -> Result<Fie
     }
 }
 
-/// Returns the number of the shortest octets of a word in two's complement, read without a sign,
+/// Returns the number of the shortest octets of a word in two's complement, read as unsigned,
 /// and how many they are.
 pub(crate) fn shortest_word(word: u128) -> (u128, usize)
     ensures word { (o : List ℕ) → IsShortest (cast_signed w128 word) o

@@ -30,7 +30,7 @@ pub extern "C" fn asn1v_integer_from_i64(number: i64, room: &mut [u8], count: &m
     put(octets.as_ref(), room)
 }
 
-/// The number that the octets encode, if it fits 64 bits. They need not be shortest.
+/// Reads the number that the octets encode, if it fits 64 bits. They need not be shortest.
 #[unsafe(no_mangle)]
 pub extern "C" fn asn1v_integer_to_i64(octets: &[u8], number: &mut i64) -> u32
     ensures read { result ≡ 0 → number.new ≡ signed octets.now }
@@ -99,7 +99,7 @@ fn order_of_shortest(a: &[u8], b: &[u8]) -> Ordering
     }
 }
 
-/// Whether the octets are the shortest of a number (X.690 8.3.2).
+/// Returns whether the octets are the shortest of a number (X.690 8.3.2).
 #[unsafe(no_mangle)]
 pub extern "C" fn asn1v_integer_is_shortest(octets: &[u8]) -> bool
     ensures { IsTrue result ↔ ((n : ℤ) × IsShortest n octets.now) }
@@ -107,8 +107,8 @@ pub extern "C" fn asn1v_integer_is_shortest(octets: &[u8]) -> bool
     !octets.is_empty() && without_redundant_sign_octets(octets).len() == octets.len()
 }
 
-/// How many of the first octets only repeat the sign: after them are the shortest octets of the
-/// same number.
+/// Returns how many of the first octets only repeat the sign: those after them are the shortest of
+/// the same number.
 #[unsafe(no_mangle)]
 pub extern "C" fn asn1v_integer_redundant(octets: &[u8]) -> usize
     ensures within { result ≤ length octets.now }

@@ -7,7 +7,7 @@ ghost use Rattle.asn1_c.specs.Octets.{octets_at};
 use crate::codes::{DONE, OUTSIDE, ROOM, TOO_MANY};
 use asn1_values::{OctetSource, read_wide};
 
-/// So many octets from a bit of others on, which have them.
+/// `count` octets from bit `first` of others on, which have them.
 #[derive(Clone, Copy)]
 pub(crate) struct OctetsAt<'a> {
     octets: &'a [u8],
@@ -18,7 +18,7 @@ pub(crate) struct OctetsAt<'a> {
 }
 
 impl<'a> OctetsAt<'a> {
-    /// Returns so many octets from a bit on.
+    /// Returns `count` octets from a bit on.
     pub(crate) fn new(octets: &'a [u8], first: usize, count: usize) -> OctetsAt<'a>
         requires few { 8 * length octets.now < 2 ^ 64 }
         requires within { first + 8 * count ≤ 8 * length octets.now }
@@ -45,7 +45,7 @@ impl OctetSource for OctetsAt<'_> {
     }
 }
 
-/// Copies so many octets, which lie one after another from bit `first` on, to the front of the
+/// Copies `count` octets, which lie one after another from bit `first` on, to the front of the
 /// room.
 #[unsafe(no_mangle)]
 pub extern "C" fn asn1v_octets_at(octets: &[u8], first: usize, count: usize, room: &mut [u8]) -> u32

@@ -29,7 +29,7 @@ pub(crate) struct Plan {
 }
 
 impl Plan {
-    /// Digits of a number alone.
+    /// Makes a plan of digits of a number alone.
     fn of_number(number: u128, width: usize) -> Plan
         ensures number { (result.number ≡ number) × (result.width ≡ width) }
         ensures no_octet { result.lead ≡ 0 }
@@ -45,7 +45,7 @@ impl Plan {
         }
     }
 
-    /// Bits of the source alone.
+    /// Makes a plan of bits of the source alone.
     fn of_bits(first: usize, length: usize) -> Plan
         ensures bits { (result.first ≡ first) × (result.length ≡ length) }
         ensures no_octet { result.lead ≡ 0 }
@@ -139,7 +139,7 @@ fn plan_number(field: &Field, width: usize, place: usize) -> Result<Plan, Refusa
     Ok(Plan::of_number(number, width))
 }
 
-/// Returns the plan of bits of the source, if they are as many as are needed, and are there.
+/// Returns the plan of bits of the source, if they are as many as are needed, and it has them.
 fn plan_placed(source: &[u8], field: &Field, need: u128, place: usize) -> Result<Plan, Refusal>
     ensures bits { IfOk result (λ p. (p.first ≡ field.now.first) × (p.length ≡ field.now.length)
         × (p.lead ≡ 0) × (p.width ≡ 0)) }

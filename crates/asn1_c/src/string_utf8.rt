@@ -12,7 +12,7 @@ use crate::strings::{pair_at, set_of_kind};
 use crate::text::put_at;
 use asn1_values::CharacterSetName;
 
-/// Tells how many characters the octets of a string are.
+/// Counts the characters of a string's octets.
 #[unsafe(no_mangle)]
 pub extern "C" fn asn1v_string_count(kind: u32, octets: &[u8], count: &mut usize) -> u32
     ensures counted { (name : CharacterSetName) → set_named kind ≡ Some name → result ≡ 0

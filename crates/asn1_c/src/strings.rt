@@ -71,7 +71,7 @@ pub(crate) fn pair_at(octets: &[u8], i: usize) -> u32
     256 * u32::from(octets[2 * i]) + u32::from(octets[2 * i + 1])
 }
 
-/// CountedSlice for the first wrong character of a string's octets: one octet a character, two in
+/// Finds the first invalid character of a string's octets: one octet a character, two in
 /// BMPString. Its index is counted in characters.
 #[unsafe(no_mangle)]
 pub extern "C" fn asn1v_string_check(

@@ -1,4 +1,4 @@
-//! Whole numbers of 64 bits without a sign, and of 128 bits with one and without, by two's
+//! Unsigned whole numbers of 64 bits, and signed and unsigned ones of 128 bits, by two's
 //! complement octets (X.690 8.3).
 
 ghost use Rattle.std.specs.Prelude.{◌≡◌, ◌≢◌, ◌↔◌, ◌<◌, ◌≤◌, ℤ, ℕ, pos, List, length, take, drop, MatchOption};
@@ -26,7 +26,7 @@ fn put_octets(octets: &IntegerBytes<'_>, room: &mut [u8], count: &mut usize) -> 
     put(octets.as_ref(), room)
 }
 
-/// Writes the shortest octets of a number with a sign to the front of the room, if they fit.
+/// Writes the shortest octets of a signed number to the front of the room, if they fit.
 pub(crate) fn put_signed(number: i128, room: &mut [u8], count: &mut usize) -> u32
     ensures written { result ≡ 0 → IsShortest number (take count.new room.new) }
     ensures count { (o : List ℕ) → IsShortest number o → count.new ≡ length o }
@@ -39,7 +39,7 @@ pub(crate) fn put_signed(number: i128, room: &mut [u8], count: &mut usize) -> u3
     put_octets(&number.to_signed_bytes_be(), room, count)
 }
 
-/// Writes the shortest octets of a number without a sign to the front of the room, if they fit.
+/// Writes the shortest octets of an unsigned number to the front of the room, if they fit.
 pub(crate) fn put_unsigned(number: u128, room: &mut [u8], count: &mut usize) -> u32
     ensures written { result ≡ 0 → IsShortest (pos number) (take count.new room.new) }
     ensures count { (o : List ℕ) → IsShortest (pos number) o → count.new ≡ length o }
@@ -68,7 +68,7 @@ pub extern "C" fn asn1v_integer_from_u64(number: u64, room: &mut [u8], count: &m
     put_octets(&shortest, room, count)
 }
 
-/// The number that the octets encode, if it is one of 64 bits without a sign. They need not be
+/// Reads the number that the octets encode, if it fits `u64`. They need not be
 /// shortest.
 #[unsafe(no_mangle)]
 pub extern "C" fn asn1v_integer_to_u64(octets: &[u8], number: &mut u64) -> u32
@@ -112,7 +112,7 @@ pub extern "C" fn asn1v_integer_from_i128(number: &Words, room: &mut [u8], count
     put_signed(number.number().cast_signed(), room, count)
 }
 
-/// The number that the octets encode in two's complement of 128 bits, if it fits these. They need
+/// Reads the number that the octets encode, if it fits 128 bits in two's complement. They need
 /// not be shortest.
 #[unsafe(no_mangle)]
 pub extern "C" fn asn1v_integer_to_i128(octets: &[u8], number: &mut Words) -> u32
@@ -134,7 +134,7 @@ pub extern "C" fn asn1v_integer_to_i128(octets: &[u8], number: &mut Words) -> u3
     DONE
 }
 
-/// Writes the shortest octets of a number of 128 bits without a sign into the room, of which
+/// Writes the shortest octets of an unsigned number of 128 bits into the room, of which
 /// seventeen are always enough. Their number is returned also where the room is too small.
 #[unsafe(no_mangle)]
 pub extern "C" fn asn1v_integer_from_u128(number: &Words, room: &mut [u8], count: &mut usize) -> u32
@@ -152,7 +152,7 @@ pub extern "C" fn asn1v_integer_from_u128(number: &Words, room: &mut [u8], count
     put_unsigned(number.number(), room, count)
 }
 
-/// The number that the octets encode, if it is one of 128 bits without a sign. They need not be
+/// Reads the number that the octets encode, if it fits `u128`. They need not be
 /// shortest.
 #[unsafe(no_mangle)]
 pub extern "C" fn asn1v_integer_to_u128(octets: &[u8], number: &mut Words) -> u32
@@ -176,7 +176,7 @@ pub extern "C" fn asn1v_integer_to_u128(octets: &[u8], number: &mut Words) -> u3
     }
 }
 
-/// Returns the number of 128 bits without a sign that shortest octets encode.
+/// Returns the unsigned number of 128 bits that shortest octets encode.
 pub(crate) fn u128_of(octets: &[u8]) -> Option<u128>
     requires { IsShortest (signed octets.now) octets.now }
     ensures { MatchOption result (¬ (IsInRange kind_u128 (signed octets.now)))

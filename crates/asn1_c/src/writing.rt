@@ -12,7 +12,7 @@ use crate::fields::{Field, Refusal, Shape, known_shape};
 use crate::plans::{Plan, plan_of};
 
 /// Writes fields of the shapes one after another over the bits of the target from bit `position`
-/// on, and tells the first bit after them: a number, a character and an integer of up to sixteen
+/// on, and returns where they end: a number, a character and an integer of up to sixteen
 /// octets by its number, any other field by its bits, which lie in the source. Every other bit
 /// stays. An error names the first invalid field.
 #[unsafe(no_mangle)]
@@ -39,7 +39,7 @@ pub extern "C" fn asn1v_write_fields(
     ensures room { result ≢ 23 → result ≡ 3 ↔ ((list : List Bool)
         × AreNamed source.now alphabets.now shapes.now fields.now list
         × IsPast (8 * length target.old) (position + length list)) }
-    // Where the room is too small, the end that is needed is told.
+    // If the room is too small, the error has the end that is needed.
     ensures needed { result ≡ 3 → (list : List Bool)
         → AreNamed source.now alphabets.now shapes.now fields.now list
         → Says refusal.new 3 (position + length list) }

@@ -21,7 +21,7 @@ get_right (x ∷ xs) ys zero k e = absurd (omega arith)
 get_right (x ∷ xs) ys (suc n) k e =
     let up : suc n + k ≡ suc (n + k) = omega arith in rw up (get_right xs ys n k (omega arith))
 
--- a place in the range at i
+-- an index in the range at i
 pub at_range : (rs : List (ℕ × ℕ)) (i j : ℕ) → i < length rs → j < (get_or rs i (0, 0)).1 + 1 - (get_or rs i (0, 0)).0
     → slice_get (flat_map characters_between rs) (counted (take i rs) + j) ≡ Some ((get_or rs i (0, 0)).0 + j)
 at_range [] i j lt small = absurd (omega arith)

@@ -7,7 +7,7 @@ use Rattle.asn1_characters.specs.Laws.TableLaws.{counted, length-base_set, topmo
 use Rattle.asn1_characters.specs.declared.character_set.CharacterSetName.{CharacterSetName}
 use Rattle.asn1_characters.specs.declared.character_set.CharacterSetName.TheVariants.{Bmp, General, Graphic, IA5, Numeric, Printable, Teletex, Visible}
 
--- the width of so many characters as ranges have
+-- the width of as many characters as ranges have
 width_counted : (name : CharacterSetName) → base_width name ≡ ceil_log2 (counted (ranges_of name))
 width_counted name = ap ceil_log2 (length-base_set name)
 

@@ -24,7 +24,7 @@ bits_same true false e = cc
 bits_same false true e = cc
 bits_same false false e = refl
 
--- a test and ranges agree on so many characters from one on
+-- a test and ranges agree on `n` characters from `c` on
 abbrev pub agree_from : ℕ → ℕ → (ℕ → Bool) → List (ℕ × ℕ) → Bool
 agree_from c zero test ranges = true
 agree_from c (suc n) test ranges = same_bit (test c) (lies_in ranges c) && agree_from (c + 1) n test ranges

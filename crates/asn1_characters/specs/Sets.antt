@@ -47,7 +47,7 @@ base_width name = ceil_log2 (base_count name)
 abbrev pub base_largest : CharacterSetName → ℕ
 base_largest name = largest (base_set name)
 
--- whether its characters are written by their places, since the largest does not fit the width
+-- whether its characters are written by their indices, since the largest does not fit the width
 abbrev pub base_indexed : CharacterSetName → Bool
 base_indexed name = nat_le (2 ^ base_width name) (base_largest name)
 

@@ -1,4 +1,4 @@
--- Widths: how many bits give so many things codes of their own.
+-- Widths: how many bits are enough for a code for each of a number of things.
 use Rattle.std.specs.Prelude.{◌^◌, ◌+◌, ◌≤◌, ℕ, suc, zero, Bool, true, false, nat_le, if◌then◌else◌}
 
 -- w is the least width in which n things can have codes of their own: for no thing, and for one, it
@@ -7,7 +7,7 @@ pub record IsLeastWidth (n w : ℕ) : Type 0 where
   pub enough : n ≤ 2 ^ w
   pub least : (v : ℕ) → n ≤ 2 ^ v → w ≤ v
 
--- the first of the widths from w on, of at most so many more, that is enough for n things
+-- the first of the widths from w on, up to w + more, that is enough for n things
 unfoldable pub least_from : ℕ → ℕ → ℕ → ℕ
 least_from zero w n = w
 least_from (suc more) w n = elim (nat_le n (2 ^ w)) [ true ↦ w | false ↦ least_from more (w + 1) n ]
@@ -21,6 +21,6 @@ ceil_log2 n = least_from n 0 n
 abbrev pub align : Bool → ℕ → ℕ
 align aligned w = if aligned then 2 ^ ceil_log2 w else w
 
--- the width of a set of so many characters (X.691 30.5.2)
+-- the width of a set of `count` characters (X.691 30.5.2)
 abbrev pub width_for : Bool → ℕ → ℕ
 width_for aligned count = if nat_le count 1 then 0 else align aligned (ceil_log2 count)

@@ -74,7 +74,7 @@ impl CharacterSetName {
         }
     }
 
-    /// Returns the least number of bits that gives each character of the set a code, at most 16.
+    /// Returns the least number of bits with a code for each character of the set, at most 16.
     pub const fn width(self) -> usize
         ensures value { result ≡ base_width self }
         ensures bound { result ≤ 16 }
@@ -116,7 +116,7 @@ impl CharacterSetName {
     }
 
     /// Returns whether the set has the character: for `BmpString` by its range, otherwise by one
-    /// look at four words.
+    /// lookup in four words.
     pub fn contains(self, character: u32) -> bool
         ensures { result ≡ has_character (base_set self) character }
     {

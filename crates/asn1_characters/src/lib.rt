@@ -2,7 +2,7 @@
 //! that are not in them.
 //!
 //! A base set is the list of characters that one of the eight strings may hold (X.680 41), by its
-//! ranges; one look at four words tells whether a character below 256 is among them. [`widths`] has
+//! ranges; a lookup in four words tells whether a character below 256 is among them. [`widths`] has
 //! the width in bits of the characters of a set. Each string has its own error, with its text.
 #![tactic(auto)]
 

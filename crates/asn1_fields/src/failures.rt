@@ -1,5 +1,5 @@
-//! A run in which an allocation fails. `scripts/fail-each-allocation` lets its first allocation
-//! fail, then its second, and so on until it makes no more.
+//! A run in which an allocation fails. `scripts/fail-each-allocation` lets the first allocation
+//! fail, then the second, and so on until there are no more.
 
 use crate::run::run;
 use octet_streams::StreamError;

@@ -16,7 +16,7 @@ use std::io::{Read, Write};
 /// # Errors
 ///
 /// Returns `Read` or `Memory` if the input cannot be read or answered; the output is then
-/// unchanged. Returns `Write` if the output cannot be written; a front of the answer may then have
+/// unchanged. Returns `Write` if the output cannot be written; a prefix of the answer may then have
 /// been written.
 pub fn run<R: Read, W: Write>(
     alloc: Global,
@@ -24,15 +24,15 @@ pub fn run<R: Read, W: Write>(
     output: &mut W,
 ) -> Result<u8, StreamError>
     ensures status { IfOk result (λ status. status ≤ 1) }
-    // It has read to the end, and what it has written is the answer to what it read. Both speak of
-    // inputs and outputs whose octets are known, as those over memory.
+    // `run` has read to the end, and has written the answer to what it read. Both clauses are about
+    // readers and writers whose octets are known, such as those over memory.
     ensures end { OnOk result (IsAtEnd (R.remaining input.new)) }
     ensures answer { IfOk result (λ status. (text : List ℕ) × (answer : lines.Answer)
         × Consumes (R.remaining input.old) (R.remaining input.new) text
         × IsOnly (IsAnswer text) answer
         × Appends (W.contents output.old) (W.contents output.new) answer.text
         × (status ≡ answer.status)) }
-    // Only where writing fails has anything been written, and then no more than a front of the
+    // After an error nothing has been written, unless writing failed; then at most a prefix of the
     // answer.
     ensures nothing { IfErr result (λ e. e ≢ StreamError.Write → output.new ≡ output.old) }
     ensures front { IfErr result (λ e. e ≡ StreamError.Write → (text : List ℕ)

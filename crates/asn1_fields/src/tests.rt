@@ -8,7 +8,7 @@ use octet_streams::StreamError;
 use std::alloc::Global;
 use std::test::Fail;
 
-/// The status and the whole output for an input in memory.
+/// Returns the status and the whole output for an input in memory.
 fn answer_of(alloc: Global, input: &[u8]) -> Result<(u8, Vec<u8>), StreamError>
     ensures { IfOk result (λ answered.
         IsOnly (IsAnswer input.now) (record { text = answered.1.items; status = answered.0 })) }

@@ -1,4 +1,4 @@
--- Lemmas on what the native types read from octets without a sign.
+-- Lemmas on what the native types read from unsigned octets.
 use Rattle.std.proofs.Common.{◌≡◌, ℕ, ◌-◌, ◌*◌, ◌%◌, ◌^◌, ◌<◌, ◌≤◌, ℤ, pos, neg_ℤ, List, [], ◌∷◌, length, refl, ◌∙◌, arith, Bool, true, false, Ok, Err, of_z}
 use Rattle.std.specs.Int.{w128}
 use Rattle.asn1_integer.proofs.ReadingLemmas.{unsigned_in_range}

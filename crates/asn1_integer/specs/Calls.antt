@@ -12,19 +12,19 @@ IsSignedKind (SignedOf size) = ⊤
 IsSignedKind (UnsignedOf size) = ⊥
 IsSignedKind Unbounded = ⊤
 
--- the reading of a type's own form: without a sign for the unsigned types, otherwise two's complement
+-- the reading of a type's own form: as unsigned for the unsigned types, otherwise two's complement
 abbrev pub own_reading : IntegerKind → List ℕ → Result ℤ IntegerError
 own_reading (SignedOf size) o = signed_reading (SignedOf size) o
 own_reading (UnsignedOf size) o = unsigned_reading (UnsignedOf size) o
 own_reading Unbounded o = signed_reading Unbounded o
 
--- a condition on `Integer` alone, which has no residue: that n is not negative
+-- a precondition of `Integer` alone, which has no residue: that n is not negative
 abbrev pub IsNonNegativeUnlessNative : IntegerKind → ℤ → Type 0
 IsNonNegativeUnlessNative (SignedOf size) n = ⊤
 IsNonNegativeUnlessNative (UnsignedOf size) n = ⊤
 IsNonNegativeUnlessNative Unbounded n = IsNonNegative n
 
--- o is the shortest list of octets whose value without a sign is n modulo 2^WIDTH, for a native
+-- o is the shortest list of octets whose unsigned value is n modulo 2^WIDTH, for a native
 -- type; n itself, for `Integer`
 abbrev pub SpellsUnsigned : IntegerKind → ℤ → List ℕ → Type 0
 SpellsUnsigned (SignedOf size) n o =
@@ -33,7 +33,7 @@ SpellsUnsigned (UnsignedOf size) n o =
     (r : ℕ) × IsResidue (UnsignedOf size) n r × IsShortestUnsigned r o
 SpellsUnsigned Unbounded n o = (r : ℕ) × (n ≡ pos r) × IsShortestUnsigned r o
 
--- the type gives n out: a native type all its numbers, `Integer` those within `i128`
+-- n is in reach: of a native type all its numbers, of `Integer` those within `i128`
 abbrev pub IsInReach : IntegerKind → ℤ → Type 0
 IsInReach (SignedOf size) n = IsInRange (SignedOf size) n
 IsInReach (UnsignedOf size) n = IsInRange (UnsignedOf size) n

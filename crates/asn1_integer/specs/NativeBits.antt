@@ -6,7 +6,7 @@ use Rattle.asn1_number.specs.declared.error.IntegerError.{IntegerError}
 use Rattle.asn1_number.specs.declared.error.IntegerError.TheVariants.{UnexpectedEmptyInput, Overflow, TypeConversionFailed, Memory}
 use Rattle.asn1_number.specs.Readings.{IntegerKind, SignedOf, UnsignedOf, IsInRange, FitsI128}
 
--- the type of so many octets, signed or not
+-- the type of `size` octets, signed or not
 abbrev pub native_kind : Bool → ℕ → IntegerKind
 native_kind true size = SignedOf size
 native_kind false size = UnsignedOf size

@@ -46,7 +46,7 @@ pub trait IntegerType {
         Self: Sized,
         ensures { value result ≡ pos 0 };
 
-    /// Returns the number that the octets encode: without a sign for an unsigned type, otherwise in
+    /// Returns the number that the octets encode: as unsigned for an unsigned type, otherwise in
     /// two's complement.
     ///
     /// # Errors
@@ -84,7 +84,7 @@ pub trait IntegerType {
         Self: Sized,
         ensures { Answers kind value result (signed_reading kind octets.now) };
 
-    /// Returns the number that the octets encode without a sign.
+    /// Returns the number that the octets encode as unsigned.
     ///
     /// # Errors
     ///
@@ -104,7 +104,7 @@ pub trait IntegerType {
         ensures shortest { IsShortest (value self.now) result }
         ensures in_range { IsInRange kind (value self.now) };
 
-    /// Returns the shortest octets without a sign of the number modulo 2 to the power of `WIDTH`,
+    /// Returns the shortest unsigned octets of the number modulo 2 to the power of `WIDTH`,
     /// or of the number itself for an `Integer`.
     ///
     /// The number must not be negative if it is an `Integer`.

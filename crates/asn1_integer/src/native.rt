@@ -1,4 +1,4 @@
-//! The native types, which answer by the bits of their numbers.
+//! The native types, which work by the bits of their numbers.
 ghost use Rattle.std.specs.Prelude.{◌≡◌, ℕ, ◌*◌, ℤ, Bool, pos, ◌+ℤ◌, ◌-ℤ◌, MatchOption};
 ghost use Rattle.std.specs.Int.{cast_unsigned, w128};
 ghost use Rattle.asn1_number.specs.Readings.{IsInRange};

@@ -44,7 +44,7 @@ fn read_copied(alloc: Global, reader: &BitReader<'_>) -> Result<Integer, AllocEr
     read_long(alloc, &copy)
 }
 
-/// The path of `read_signed` for more than sixteen octets.
+/// Does what `read_signed` does for more than sixteen octets.
 #[inline(never)]
 fn read_long(alloc: Global, reader: &BitReader<'_>) -> Result<Integer, AllocError>
     requires whole { (view_left reader.now).len % 8 ≡ 0 }

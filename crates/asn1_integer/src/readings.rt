@@ -42,7 +42,7 @@ pub(crate) fn read_own(octets: &[u8], size: usize, is_signed: bool) -> Result<u1
     }
 }
 
-/// Returns the bits of the number that a native type reads from octets without a sign.
+/// Returns the bits of the number that a native type reads from unsigned octets.
 pub(crate) fn read_without_sign(
     octets: &[u8],
     size: usize,
@@ -139,7 +139,7 @@ fn octets_behind_zero<'a>(bits: u128) -> IntegerBytes<'a>
     IntegerBytes::from_octets(&octets)
 }
 
-/// Returns the shortest octets without a sign of the bits of so many low octets.
+/// Returns the shortest unsigned octets of the lowest `size` octets of the bits.
 pub(crate) fn unsigned_octets_of<'a>(bits: u128, size: usize) -> IntegerBytes<'a>
     requires { IsNativeSize size }
     ensures { IsShortestUnsigned (bits % 2 ^ (8 * size)) result }
@@ -147,7 +147,7 @@ pub(crate) fn unsigned_octets_of<'a>(bits: u128, size: usize) -> IntegerBytes<'a
     signed_octets_of(low_octets(bits, size), false).without_sign()
 }
 
-/// Returns the bits of so many low octets.
+/// Returns the lowest `size` octets of the bits.
 fn low_octets(bits: u128, size: usize) -> u128
     requires { IsNativeSize size }
     ensures { result ≡ bits % 2 ^ (8 * size) }

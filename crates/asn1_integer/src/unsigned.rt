@@ -1,4 +1,4 @@
-//! The six native types without a sign.
+//! The six unsigned native types.
 ghost use Rattle.std.specs.Prelude.{pos, false};
 ghost use Rattle.std.proofs.Common.{rules};
 

@@ -13,7 +13,7 @@ use std::test::Fail;
 /// Sixty-four octets.
 const OCTETS: [u8; 64] = [0x5A; 64];
 
-/// The three bits 111.
+/// Returns the three bits 111.
 pub fn three_ones(alloc: Global) -> Result<BitBuffer, AllocError>
     ensures { IfOk result (λ bits. length bits ≡ 3) }
 {
@@ -22,7 +22,7 @@ pub fn three_ones(alloc: Global) -> Result<BitBuffer, AllocError>
     Ok(buffer)
 }
 
-/// The bits of the 64 octets.
+/// Returns the bits of the 64 octets.
 fn octets(alloc: Global) -> Result<BitBuffer, AllocError>
     ensures { IfOk result (λ bits. length bits ≡ 512) }
 {
@@ -31,12 +31,12 @@ fn octets(alloc: Global) -> Result<BitBuffer, AllocError>
     Ok(buffer)
 }
 
-/// Whether the buffer holds so many bits, in these octets.
+/// Returns whether the buffer has `count` bits, in these octets.
 fn holds(buffer: &BitBuffer, count: usize, octets: &[u8]) -> bool {
     buffer.len() == count && buffer.as_bytes() == octets
 }
 
-/// Whether the buffer holds 111 and no other bit.
+/// Returns whether the buffer holds 111 and no other bit.
 pub fn is_three_ones(buffer: &BitBuffer) -> bool {
     holds(buffer, 3, &[0xE0])
 }
@@ -57,7 +57,7 @@ const FOLLOWED_BY_ZEROS: [u8; 65] = [
     0, 0,
 ];
 
-/// Whether the buffer holds 111, and after it, where the call is done, the 64 octets 5A.
+/// Returns whether the buffer has 111, followed by the 64 octets 5A if the call succeeded.
 fn is_extended(buffer: &BitBuffer, is_done: bool) -> bool {
     if is_done {
         holds(buffer, 515, &FOLLOWED_BY_OCTETS)
@@ -66,7 +66,7 @@ fn is_extended(buffer: &BitBuffer, is_done: bool) -> bool {
     }
 }
 
-/// Whether the buffer holds 512 ones, or where the call is not done 111 alone.
+/// Returns whether the buffer has 512 ones, or 111 alone if the call failed.
 fn is_resized(buffer: &BitBuffer, is_done: bool) -> bool {
     if is_done {
         holds(buffer, 512, &[0xFF; 64])
@@ -75,7 +75,7 @@ fn is_resized(buffer: &BitBuffer, is_done: bool) -> bool {
     }
 }
 
-/// Whether the string holds the 64 octets.
+/// Returns whether the string holds the 64 octets.
 fn is_octets(string: &BitString) -> bool {
     string.as_raw_slice() == OCTETS.as_slice()
 }
@@ -114,7 +114,7 @@ fn bit_buffer_push_bits_within_an_octet(rt: HostRuntime) -> Result<(), Fail> {
     let Ok(mut buffer) = three_ones(rt.alloc()) else {
         return met_before(&rt, "BitBuffer::push_bits within an octet");
     };
-    // No octet is added, so nothing is asked for.
+    // No octet is added, so nothing is allocated.
     let is_pushed = buffer.push_bits(31, 5).is_ok();
     assert!(rt; is_pushed && holds(&buffer, 8, &[0xFF]));
     Ok(())
@@ -288,7 +288,7 @@ fn bit_reader_octets(rt: HostRuntime) -> Result<(), Fail> {
 
 #[test]
 fn bit_reader_octets_on_boundaries(rt: HostRuntime) -> Result<(), Fail> {
-    // They are lent, and nothing is asked for.
+    // They are borrowed, so nothing is allocated.
     let octets = BitReader::from_octets(&OCTETS).octets(rt.alloc())?;
     assert!(rt; matches!(octets, Octets::Borrowed(_)));
     assert!(rt; octets.as_ref() == OCTETS.as_slice());

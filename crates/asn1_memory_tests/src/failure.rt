@@ -1,15 +1,14 @@
-//! What a test says when an allocation failed.
+//! What a test prints after a failed allocation.
 
 use std::test::Fail;
 
-/// The call under test met the failed allocation.
+/// Prints that the call under test met the failed allocation.
 pub fn met(rt: &HostRuntime, call: &str) -> Result<(), Fail> {
     println!(rt; "failed: {call}")?;
     Ok(())
 }
 
-/// A call that allocates has returned: what was to be there then must be there, and
-/// if an allocation failed a line says so.
+/// Checks the result of a call that allocates, and prints a line if an allocation failed.
 pub fn settle(
     rt: &HostRuntime,
     call: &str,
@@ -22,7 +21,7 @@ pub fn settle(
     if is_done { Ok(()) } else { met(rt, call) }
 }
 
-/// An argument of the call could not be made.
+/// Says that an argument of the call could not be made.
 pub fn met_before(rt: &HostRuntime, call: &str) -> Result<(), Fail> {
     println!(rt; "failed before: {call}")?;
     Ok(())

@@ -10,12 +10,12 @@ use std::alloc::Global;
 use std::borrow::CowSlice;
 use std::test::Fail;
 
-/// Forty octets, and so many zero octets that any buffer must grow for them.
+/// Forty octets, and more zero octets than a small buffer has room for.
 const OCTETS: [u8; 40] = [0xA5; 40];
 
 const ZEROS: [u8; 4096] = [0; 4096];
 
-/// The integer 128, the same after the number of its octets, and the contents of the arcs below.
+/// The integer 128, a counted integer, and the contents of the arcs below.
 const MIDDLE: [u8; 14] = [
     0x00, 0x80, 0x02, 0x00, 0x80, 0x60, 0x86, 0x48, 0x01, 0x65, 0x03, 0x04, 0x02, 0x03,
 ];
@@ -33,8 +33,8 @@ const POWER: [u8; 26] = [
     0x00, 0x80, 0, 0, 0, 0, 0, 0, 0, 0, 0, 0, 0, 0, 0, 0, 0, 0, 0, 0, 0, 0, 0, 0, 0, 0,
 ];
 
-/// A field of each kind, without memory: five bits, octets, integers, an identifier, zero octets,
-/// three bits and a character of one bit.
+/// Returns a field of each kind, without memory: five bits, octets, integers, an identifier, zero
+/// octets, three bits and a character of one bit.
 fn message() -> Result<[Field<'static, 'static>; 8], Fail> {
     let arcs = CowSlice::Borrowed(&[2, 16, 840, 1, 101, 3, 4, 2, 3]);
     let bits = BitStr::new(&[0xE0], 0, 3).ok_or("there")?;
@@ -57,7 +57,7 @@ fn message() -> Result<[Field<'static, 'static>; 8], Fail> {
     ])
 }
 
-/// Whether the buffer holds 111 and the message.
+/// Returns whether the buffer holds 111 and the message.
 fn holds_message(buffer: &BitBuffer) -> bool {
     let octets = buffer.as_bytes();
     buffer.len() == 33212
@@ -67,12 +67,12 @@ fn holds_message(buffer: &BitBuffer) -> bool {
         && octets.last() == Some(&0xF0)
 }
 
-/// `write_fields`, without its contract: what goes through it is quick to prove.
+/// Calls `write_fields` without its contract, so that callers are quick to prove.
 fn write(buffer: &mut BitBuffer, fields: &[Field<'_, '_>]) -> Result<(), WriteError> {
     write_fields(buffer, fields)
 }
 
-/// `read_fields`, without its contract.
+/// Calls `read_fields` without its contract.
 fn read<'a, 's>(
     alloc: Global,
     reader: &mut BitReader<'a>,
@@ -81,8 +81,7 @@ fn read<'a, 's>(
     read_fields(alloc, reader, shapes)
 }
 
-/// A call wrote the message after 111, or was out of memory and left 111; another result fails
-/// the test.
+/// Checks that a call wrote the message after 111, or was out of memory and left 111.
 fn answers(
     rt: &HostRuntime,
     call: &str,
@@ -145,8 +144,8 @@ fn a_wrong_field_keeps_its_name_in_writing(rt: HostRuntime) -> Result<(), Fail> 
     Ok(())
 }
 
-/// Six bits, octets off the boundary, and an integer past `i128`, after 111; `None` if out
-/// of memory.
+/// Writes six bits, octets that do not begin at an octet, and an integer that exceeds `i128`, after
+/// 111. `None` if out of memory.
 fn bits_to_read(alloc: Global) -> Option<BitBuffer> {
     let power = Integer::from_signed_octets(alloc, &POWER).ok()?;
     let fields = [
@@ -163,8 +162,8 @@ fn bits_to_read(alloc: Global) -> Option<BitBuffer> {
     Some(buffer)
 }
 
-/// Whether these are the fields that were written, the last octets as an integer, a counted one and
-/// an identifier.
+/// Returns whether these are the fields that were written, the last octets as an integer, a counted
+/// integer and an identifier.
 fn are_those(fields: &[Field<'_, '_>]) -> bool {
     let [number, octets, power, integer, counted, oid] = fields else {
         return false;
@@ -182,8 +181,8 @@ fn are_those(fields: &[Field<'_, '_>]) -> bool {
         && matches!(oid, Field::Oid(oid) if oid.eq_arcs(&[2, 16, 840, 1, 101, 3, 4, 2, 3]))
 }
 
-/// Whether the fields after 111 are read, and whether all is then right: they are those, and no bit
-/// is left; or it is out of memory, and all bits are left.
+/// Reads the fields after 111. Returns whether they are read, and whether they are right and no bit
+/// is left, or the error is out of memory and all bits are left.
 fn outcome_of(alloc: Global, view: BitStr<'_>) -> (bool, bool) {
     let shapes = [
         Shape::Number { width: 6 },

@@ -20,7 +20,7 @@ const ELEMENT: [u8; 11] = [
 /// Its dotted text.
 const TEXT: &str = "2.16.840.1.101.3.4.2.3";
 
-/// Whether an identifier was made, and whether it then has the arcs.
+/// Returns whether an identifier was made, and whether it has the arcs.
 fn outcome_of(answer: Result<ObjectIdentifier, AllocError>) -> (bool, bool) {
     match answer {
         Ok(copy) => (true, copy.eq_arcs(&ARCS)),

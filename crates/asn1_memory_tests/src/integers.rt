@@ -10,7 +10,7 @@ const POWER: [u8; 26] = [
     0x00, 0x80, 0, 0, 0, 0, 0, 0, 0, 0, 0, 0, 0, 0, 0, 0, 0, 0, 0, 0, 0, 0, 0, 0, 0, 0,
 ];
 
-/// Whether the number is 2 to the power of 199.
+/// Returns whether the number is 2 to the power of 199.
 fn is_power(number: &Integer) -> bool {
     number.signed_octets().as_ref() == POWER.as_slice()
 }
@@ -21,13 +21,12 @@ const LARGEST: [u8; 17] = [
     0xFF,
 ];
 
-/// Whether the number is 2 to the power of 128, less 1.
+/// Returns whether the number is 2 to the power of 128, less 1.
 fn is_largest(number: &Integer) -> bool {
     number.signed_octets().as_ref() == LARGEST.as_slice()
 }
 
-/// A call returned 2 to the power of 199, or was out of memory; another result fails the
-/// test.
+/// Checks that a call returned 2 to the power of 199, or was out of memory.
 fn gives_power(
     rt: &HostRuntime,
     call: &str,
@@ -111,7 +110,7 @@ fn refused_conversion_clone(rt: HostRuntime) -> Result<(), Fail> {
     let Ok(number) = Integer::from_signed_octets(rt.alloc(), &POWER) else {
         return met_before(&rt, "TryFromIntegerError::clone");
     };
-    // The conversion hands the number back, without memory.
+    // The conversion returns the number, and allocates nothing.
     let Err(refused) = i64::try_from(number) else {
         return Err("too large".into());
     };

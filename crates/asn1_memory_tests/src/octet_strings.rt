@@ -9,7 +9,7 @@ use std::test::Fail;
 /// Sixty-four octets.
 const OCTETS: [u8; 64] = [0x5A; 64];
 
-/// Whether the octets are the sixty-four.
+/// Returns whether the octets are the sixty-four.
 fn is_whole(octets: &[u8]) -> bool {
     octets == OCTETS.as_slice()
 }
@@ -44,7 +44,7 @@ fn octet_string_from_vec(rt: HostRuntime) -> Result<(), Fail> {
     settle(&rt, "OctetString::from_vec", is_done, is_right)
 }
 
-/// Whether a clone is these octets.
+/// Returns whether a clone has these octets.
 fn is_cloned(string: &OctetString, octets: &[u8]) -> bool {
     match string.clone() {
         Ok(copy) => copy.eq_bytes(octets),
@@ -52,7 +52,7 @@ fn is_cloned(string: &OctetString, octets: &[u8]) -> bool {
     }
 }
 
-/// Whether these octets are lent.
+/// Returns whether these octets are borrowed.
 fn is_lent(string: &OctetString, alloc: Global, octets: &[u8]) -> bool {
     match string.to_bytes(alloc) {
         Ok(bytes) => bytes.as_slice() == octets,
@@ -60,7 +60,7 @@ fn is_lent(string: &OctetString, alloc: Global, octets: &[u8]) -> bool {
     }
 }
 
-/// Whether a string of these octets is made of them.
+/// Returns whether a string was made of these octets.
 fn is_taken(bytes: &Bytes, octets: &[u8]) -> bool {
     match OctetString::from_bytes_ref(bytes) {
         Ok(copy) => copy.eq_bytes(octets),

@@ -1,4 +1,4 @@
-//! Room that was reserved: what is then appended allocates nothing.
+//! Reserved capacity: appending within it allocates nothing.
 
 use crate::failure::met_before;
 use asn1_values::BitBuffer;
@@ -11,9 +11,9 @@ fn bit_buffer_push_bits_into_reserved_octets(rt: HostRuntime) -> Result<(), Fail
         return met_before(&rt, "BitBuffer::push_bits into reserved octets");
     };
     for octet in 0..8u64 {
-        // That the length stays small is tested here for the proof alone.
+        // The proof alone needs this test, that the length stays small.
         if buffer.len() < 64 {
-            // The room is there, so nothing is asked for.
+            // There is room, so nothing is allocated.
             buffer.push_bits(u128::from(octet), 8)?;
         }
     }

@@ -16,13 +16,12 @@ const TWOS: [u8; 48] = [0x32; 48];
 /// The same as a text.
 const TEXT: &str = "222222222222222222222222222222222222222222222222";
 
-/// Whether these are the characters: so many times one.
+/// Returns whether the string is `count` times one character.
 fn has<S: StaticPermittedAlphabet>(string: &S, count: usize, character: u32) -> bool {
     string.len() == count && string.chars().all(|c| c == character)
 }
 
-/// A call returned so many times one character, or was out of memory; another result fails
-/// the test.
+/// Checks that a call returned `count` times one character, or was out of memory.
 fn gives<S: StaticPermittedAlphabet>(
     rt: &HostRuntime,
     call: &str,
@@ -37,7 +36,7 @@ fn gives<S: StaticPermittedAlphabet>(
     }
 }
 
-/// `try_from_slice`, without its contract: what goes through it is quick to prove.
+/// Calls `try_from_slice` without its contract, so that callers are quick to prove.
 fn from_slice<S: StaticPermittedAlphabet>(
     alloc: Global,
     octets: &[u8],
@@ -45,7 +44,7 @@ fn from_slice<S: StaticPermittedAlphabet>(
     S::try_from_slice(alloc, octets)
 }
 
-/// `try_from_str`, without its contract.
+/// Calls `try_from_str` without its contract.
 fn from_str<S: StaticPermittedAlphabet>(
     alloc: Global,
     text: &str,
@@ -53,7 +52,7 @@ fn from_str<S: StaticPermittedAlphabet>(
     S::try_from_str(alloc, text)
 }
 
-/// A string of forty-eight twos; `None` if out of memory.
+/// Returns a string of forty-eight twos, or `None` if out of memory.
 fn twos<S: StaticPermittedAlphabet>(alloc: Global) -> Option<S> {
     from_slice(alloc, &TWOS).ok()
 }

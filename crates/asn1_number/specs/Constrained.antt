@@ -10,7 +10,7 @@ constrained_number c = c.kept.number
 abbrev pub IsWithin : ℤ → ℤ → ℤ → Type 0
 IsWithin start end n = (start ≤ℤ n) × (n ≤ℤ end)
 
--- n is kept where it lies from start to end, and is handed back where it does not
+-- n is kept if it lies from start to end, otherwise it is the error
 abbrev pub AcceptsFrom : {START END : ℕ} →
     ℤ → ℤ → ℤ → Result (ConstrainedInteger START END) ℤ → Type 0
 AcceptsFrom start end n r =

@@ -10,7 +10,7 @@ abbrev pub number_in : Form → ℤ
 number_in (Inline start words) = signed (flat_map (λ w. w) words)
 number_in (Shortest v) = signed v.items
 
--- a number has one form: its sixteen octets with the place where the shortest begin, or, where it
+-- a number has one form: its sixteen octets with the index where the shortest begin, or, where it
 -- lies outside `i128`, its shortest ones, more than sixteen
 abbrev pub IsOneForm : Form → Type 0
 IsOneForm (Inline start words) =

@@ -28,7 +28,7 @@ pub record IsShortest (n : ℤ) (o : List ℕ) : Type 0 where
       (other : List ℕ) → IsOctets other → 0 < length other → signed other ≡ n →
       length o ≤ length other
 
--- o encodes n without a sign: its positional sum is n, and no shorter list has that sum
+-- o encodes n as unsigned: its positional sum is n, and no shorter list has that sum
 pub record IsShortestUnsigned (n : ℕ) (o : List ℕ) : Type 0 where
   pub octets : IsOctets o
   pub some : 0 < length o

@@ -4,7 +4,7 @@ use Rattle.asn1_number.specs.declared.error.IntegerError.{IntegerError}
 use Rattle.asn1_number.specs.declared.error.IntegerError.TheVariants.{UnexpectedEmptyInput, Overflow, TypeConversionFailed, Memory}
 use Rattle.asn1_number.specs.Octets.{unsigned, signed}
 
--- A type of integers: the native signed or unsigned type of so many octets, or `Integer`.
+-- A type of integers: the native signed or unsigned type of a number of octets, or `Integer`.
 pub data IntegerKind : Type 0 where
   SignedOf : ℕ → IntegerKind
   UnsignedOf : ℕ → IntegerKind
@@ -84,7 +84,7 @@ signed_reading (UnsignedOf size) (b ∷ bs) =
     else Ok (signed (b ∷ bs)))
 signed_reading Unbounded (b ∷ bs) = Ok (signed (b ∷ bs))
 
--- what each type reads from octets without a sign
+-- what each type reads from unsigned octets
 unfoldable pub unsigned_reading : IntegerKind → List ℕ → Result ℤ IntegerError
 unsigned_reading kind [] = Err UnexpectedEmptyInput
 unsigned_reading (SignedOf size) (b ∷ bs) =

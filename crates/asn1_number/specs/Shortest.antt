@@ -12,7 +12,7 @@ abbrev pub octets_past_first : ℤ → ℕ
 octets_past_first z =
     prefix_len (λ k. nat_le (128 * 256 ^ k) (mag z)) (range_with_len 0 (suc (mag z)))
 
--- z's octets, read without a sign: n itself, and for a number below zero what it is modulo 256 ^
+-- z's octets, read as unsigned: n itself, and for a number below zero what it is modulo 256 ^
 -- size
 abbrev pub residue_at : ℕ → ℤ → ℕ
 residue_at size (pos n) = n

@@ -13,7 +13,7 @@ pub enum IntegerError {
     /// one leading zero octet more.
     #[error("more than {max_integer_bits} bits")]
     Overflow { max_integer_bits: u32 },
-    /// The value is negative, and the type has no sign; or the octets were read without a sign, and
+    /// The value is negative, and the type has no sign; or the octets were read as unsigned, and
     /// their value exceeds the largest number of the signed type.
     #[error("no value of {bits} bits")]
     TypeConversionFailed { bits: u32 },

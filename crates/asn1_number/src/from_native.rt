@@ -27,7 +27,7 @@ impl Integer {
 impl From<i128> for Integer {
     ghost from_gives = { λ n number. number ≡ n };
 
-    // Inlined, so that the caller stores the number in its place, and copies no result.
+    // Inlined, so that the caller stores the number directly, and copies no result.
     #[inline(always)]
     fn from(n: i128) -> Integer {
         Integer::inline(n)

@@ -34,7 +34,7 @@ pub struct Integer {
 #[derive(Debug, Drop)]
 enum Form {
     /// The sixteen octets of the number, of which those from `start` on are the shortest. So these
-    /// can be lent.
+    /// can be borrowed.
     Inline { start: usize, words: [[u8; 8]; 2] },
     Shortest(Vec<u8>),
 }
@@ -156,7 +156,7 @@ impl Integer {
         Integer::from_long_octets(alloc, octets)
     }
 
-    /// The path of `from_signed_octets` for more than sixteen octets. Inlined, so that the stack
+    /// Does what `from_signed_octets` does for more than 16 octets. Inlined, so that the stack
     /// slot for the call's result is initialised on this path alone.
     #[inline(always)]
     fn from_long_octets(alloc: Global, octets: &[u8]) -> Result<Integer, IntegerError>
@@ -191,7 +191,7 @@ impl Integer {
         })
     }
 
-    /// Returns the value of the octets without a sign, at any length.
+    /// Returns the unsigned value of the octets, at any length.
     ///
     /// # Errors
     ///
@@ -246,7 +246,7 @@ impl Integer {
         }
     }
 
-    /// Returns the shortest octets without a sign. The number must not be negative.
+    /// Returns the shortest unsigned octets. The number must not be negative.
     pub fn unsigned_octets(&self) -> IntegerBytes<'_>
         requires { IsNonNegative self.now }
         ensures { (n : ℕ) → self.now ≡ pos n → IsShortestUnsigned n result }

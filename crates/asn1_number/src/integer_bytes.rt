@@ -117,7 +117,7 @@ impl<'a> IntegerBytes<'a> {
         self.as_ref().is_empty()
     }
 
-    /// Returns the shortest octets without a sign, if these are the shortest two's complement
+    /// Returns the shortest unsigned octets, if these are the shortest two's complement
     /// octets of a number that is not negative.
     pub fn without_sign(self) -> IntegerBytes<'a>
         ensures { (n : ℕ) → IsShortest (pos n) self.entry → IsShortestUnsigned n result }

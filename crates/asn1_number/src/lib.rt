@@ -1,7 +1,7 @@
 //! Whole numbers of any size and the octets that encode them (X.690 8.3).
 //!
 //! An [`Integer`] is a whole number: each call is proved by its value alone, whatever its size. Its
-//! octets are the shortest that encode it, in two's complement or without a sign. How the integer
+//! octets are the shortest that encode it, in two's complement or unsigned. How the integer
 //! types read octets, and which octets are shortest, are definitions in `specs/`; `specs/Laws.antt`
 //! has what follows from them.
 //!

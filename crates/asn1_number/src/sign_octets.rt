@@ -9,7 +9,7 @@ fn repeats_sign(first: u8, second: u8) -> bool
     first == 0 && second < 128 || first == 255 && second >= 128
 }
 
-/// Returns whether the first octet alone tells that the octets are the shortest of their two's
+/// Returns whether the first octet alone shows that the octets are the shortest of their two's
 /// complement value (X.690 8.3.2), as it mostly does.
 pub(crate) fn is_shortest_at_once(octets: &[u8]) -> bool
     requires { 0 < length octets.now }
@@ -34,7 +34,7 @@ pub fn without_redundant_sign_octets(octets: &[u8]) -> &[u8]
     rest
 }
 
-/// `without_redundant_sign_octets`, where mostly the first octet tells that there are none.
+/// Does what `without_redundant_sign_octets` does. Mostly one octet shows that there are none.
 pub(crate) fn without_redundant_sign_octets_fast(octets: &[u8]) -> &[u8]
     requires { 0 < length octets.now }
     ensures { IsShortest (signed octets.now) result.now }

@@ -64,7 +64,7 @@ fn signed_by_octets(octets: &[u8]) -> i128
     value
 }
 
-/// Returns the value of the octets without a sign, most significant first. It is 0 for no octets.
+/// Returns the unsigned value of the octets, most significant first. It is 0 for no octets.
 ///
 /// The number of octets must be at most 16.
 pub fn unsigned_value(octets: &[u8]) -> u128
@@ -94,7 +94,7 @@ pub(crate) fn leading_octets_of(number: i128) -> usize
 {
     match i64::try_from(number) {
         Ok(short) => 8 + spare_of_eight(short),
-        // The low word's octets are all needed: the high word's tell how many are spare.
+        // The low word's octets are all needed: the high word's show how many are spare.
         Err(_) => spare_of_eight(((number.cast_unsigned() >> 64) as u64).cast_signed()),
     }
 }
@@ -112,7 +112,7 @@ pub(crate) fn leading_octets_among(octets: &[u8]) -> usize
     counted_leading_octets(octets)
 }
 
-/// The path of `leading_octets_among` where the first octet does not tell.
+/// Does what `leading_octets_among` does where the first octet does not show it.
 #[cold]
 #[inline(never)]
 fn counted_leading_octets(octets: &[u8]) -> usize
@@ -140,7 +140,7 @@ pub(crate) fn words_of_octets(octets: &[u8]) -> (u64, u64)
     }
 }
 
-/// The path of `words_of_octets` for other counts. Not inlined, since it has loops.
+/// Does what `words_of_octets` does for other counts. Not inlined, since it has loops.
 #[inline(never)]
 fn words_by_octets(octets: &[u8]) -> (u64, u64)
     requires some { 0 < length octets.now }
@@ -191,7 +191,7 @@ pub(crate) fn shortest_in_words(number: i128) -> (usize, u64, u64)
         Err(_) => {
             let bits = number.cast_unsigned();
             let high = (bits >> 64) as u64;
-            // The low word's octets are all needed: the high word's tell how many are spare.
+            // The low word's octets are all needed: the high word's show how many are spare.
             let spare = spare_of_eight(high.cast_signed());
             (spare, high, (bits % (1 << 64)) as u64)
         }

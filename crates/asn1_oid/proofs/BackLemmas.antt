@@ -27,7 +27,7 @@ low_octets-last word (suc k) =
     ∙ ap (λ (w : ℕ). word % 256 ∷ (low_octets (word / 256) k ++ (w % 256) ∷ []))
     (div-div-eq-div-mul word 256 (256 ^ k) ∙ ap (λ (p : ℕ). word / p) (sym (pow-succ' 256 k)))
 
--- two to the power of so many bits
+-- two to the power of the bits of `k` octets
 octet_power : (k : ℕ) → 2 ^ (8 * k) ≡ 256 ^ k
 octet_power zero = refl
 octet_power (suc k) =

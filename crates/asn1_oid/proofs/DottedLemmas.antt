@@ -15,7 +15,7 @@ joined : (x : ℕ) (xs : List ℕ)
 joined x [] = append-nil (decimal x)
 joined x (y ∷ ys) = ap (λ t. decimal x ++ (full_stop ∷ t)) (joined y ys)
 
--- the text from a place on begins with a full stop and that arc
+-- the text from an index on begins with a full stop and that arc
 pub stops_from : (arcs : List ℕ) (i j x : ℕ) → i < length arcs → j ≡ i + 1 → x ≡ get_or arcs i 0 →
     full_stop ∷ (decimal x ++ with_stops (drop j arcs)) ≡ with_stops (drop i arcs)
 stops_from [] i j x l n e = absurd (omega arith)

@@ -21,7 +21,7 @@ parts_left left = option_map_or (λ here. slice_split (λ b. eqb b 46) here.now)
 abbrev pub octets_left : Option (Bor (List ℕ)) → ℕ
 octets_left left = option_map_or (λ here. length here.now + 1) left 0
 
--- arcs were read, and their numbers stored wherever there is a place
+-- arcs were read, and their numbers stored wherever the room has an entry
 pub record Reads (text : List ℕ) (left : Option (Bor (List ℕ))) (count : ℕ) (front room initial : List ℕ) : Type 0 where
   pub done : List ℕ
   pub parts : slice_split (λ b. eqb b 46) text ≡ map decimal done ++ parts_left left

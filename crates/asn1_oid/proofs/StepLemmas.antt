@@ -11,7 +11,7 @@ use Rattle.asn1_oid.specs.Laws.ReadingLaws.{ends, goes_on}
 
 -- ---- one octet
 
--- the octets from a place on, and those from one place later on
+-- the octets from an index on, and those from the next index on
 next_octet : (octets : List ℕ) (i octet : ℕ) → i < length octets → octet ≡ get_or octets i 0
     → drop i octets ≡ octet ∷ drop (i + 1) octets
 next_octet octets i octet lt is = drop_more octets i 0 lt ∙ ap (λ (k : ℕ). k ∷ drop (i + 1) octets) (sym is)
@@ -26,7 +26,7 @@ unended n = refl
 
 -- ---- one subidentifier
 
--- from a place on, octets of a subidentifier were gathered up to another
+-- from an index on, octets of a subidentifier were gathered up to another
 pub record Gathers (octets : List ℕ) (place i told cap : ℕ) : Type 0 where
   pub number : ℕ
   pub as_told : told ≡ min number cap
@@ -126,7 +126,7 @@ three true true false = refl
 three true false c = refl
 three false b c = refl
 
--- the numbers up to a place, and whether they all fit
+-- the numbers up to an index, and whether they all fit
 pub record Walks (octets : List ℕ) (place : ℕ) (fit : Bool) : Type 0 where
   pub first : ℕ
   pub others : List ℕ
@@ -185,7 +185,7 @@ stops octets place fit w e = reads_none octets (w.read ∙ ap (with_front (w.fir
 
 -- ---- arcs that are gathered
 
--- the arcs up to a place, which all fit
+-- the arcs up to an index, which all fit
 pub record Gathered (octets : List ℕ) (place : ℕ) (items : List ℕ) : Type 0 where
   pub first : ℕ
   pub others : List ℕ

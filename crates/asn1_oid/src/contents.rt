@@ -38,7 +38,7 @@ impl OctetSource for &[u8] {
     }
 }
 
-/// Octets are below 256. It does nothing.
+/// States that octets are below 256. It does nothing.
 fn are_octets(octets: &[u8])
     ensures { All (λ octet. octet < 256) octets.now }
 {}
@@ -139,7 +139,7 @@ pub(crate) fn arcs_in<S: OctetSource>(alloc: Global, source: &S) -> Option<Vec<u
     Some(arcs)
 }
 
-/// Makes room for the arcs of so many octets: one more than these, of which the first may have two.
+/// Makes room for the arcs of `count` octets: one more than these, of which the first may have two.
 fn room_for(alloc: Global, count: usize) -> Option<Vec<u32>>
     ensures empty { IfSome result (λ arcs. arcs.items ≡ []) }
     ensures room { IfSome result (λ arcs. (vec_len arcs ≡ 0) × (count + 1 ≤ vec_capacity arcs)) }

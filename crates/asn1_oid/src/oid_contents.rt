@@ -79,7 +79,7 @@ fn octets_in_word(number: u64) -> (u64, u32)
     (256 * four + 128 + (number >> 28) % 128, 5)
 }
 
-/// Takes the first octet out of a word of so many octets.
+/// Takes the first octet out of a word of `count` octets.
 fn take_first(word: &mut u64, count: &mut u32) -> Option<u8>
     ensures first { YieldsFirst (λ w. w) (low_octets word.old count.old) result
         (low_octets word.new count.new) }
@@ -94,7 +94,7 @@ fn take_first(word: &mut u64, count: &mut u32) -> Option<u8>
     Some(octet)
 }
 
-/// Takes the last octet out of a word of so many octets.
+/// Takes the last octet out of a word of `count` octets.
 fn take_last(word: u64, count: &mut u32) -> Option<u8>
     requires { count.old ≤ 5 }
     ensures last { YieldsLast (λ w. w) (low_octets word count.old) result

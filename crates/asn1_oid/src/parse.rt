@@ -60,7 +60,7 @@ pub fn parse_arcs(text: &[u8], room: &mut [u32]) -> Option<usize>
         count += 1;
         left = behind;
     }
-    // The first two arcs tell whether all are valid.
+    // The first two arcs determine whether all are valid.
     if !is_valid(&front[..count.min(2)]) {
         return None;
     }

@@ -21,7 +21,7 @@ use Rattle.asn1_characters.specs.declared.character_set.CharacterSetName.{Charac
 use Rattle.asn1_characters.specs.declared.error.PermittedAlphabetError.{PermittedAlphabetError}
 use Rattle.asn1_characters.specs.declared.error.PermittedAlphabetError.TheVariants.{IndexNotFound, InvalidRestrictedString, Memory}
 
--- what is read where the search for a wrong key ends so
+-- what is read where the search for an invalid key ends so
 abbrev after_search : CharacterSetName → (ℕ → Option ℕ) → List ℕ → Option ℕ → Result (List ℕ) PermittedAlphabetError
 after_search name get keys o = option_map_or (λ k. Err (key_error name k (get k))) o (Ok (filter_map get keys))
 
@@ -113,7 +113,7 @@ read_next name get keys cs n key c long read at found has = λ k h. elim (cases_
 split_word : (j m w : ℕ) → (j + 1 + m) * w ≡ j * w + (w + w * m)
 split_word j m w = omega arith
 
--- the key at a place of a word is the number of some of its digits
+-- the key at an index of a word is the number of some of its digits
 pub key_of_word : (bits : List Bool) (w n j m count word : ℕ) → j + 1 + m ≡ count
     → n + count ≤ length bits / w
     → digits word (count * w) ≡ take (count * w) (drop (n * w) bits)

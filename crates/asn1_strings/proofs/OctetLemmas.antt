@@ -83,7 +83,7 @@ low_in name last xs one = both (low, high) (between_in name 0 last xs one)
     high between =
         let within = largest_within xs last (λ i lt. (between i 0 lt).1) in grind (arith, nat_tests)
 
--- how far an octet is from a first one, round through 256
+-- how far an octet is from a first one, modulo 256
 abbrev pub distance_from : ℕ → ℕ → ℕ
 distance_from first octet = (octet + (256 - first)) % 256
 

@@ -40,7 +40,7 @@ octet_fits i n octet few low small =
     let room : 2 ^ (8 * (i + 1)) ≤ 2 ^ 32 = pow_mono (let e : 8 * (i + 1) ≤ 32 = omega arith in e) in
     omega arith
 
--- the number at a place, of what f gives of each piece
+-- the number at an index, of what f makes of each piece
 pub get_or-pieces : {X : Type 0} (f : List X → ℕ) (w : ℕ) (xs : List X) (i : ℕ) → i < length xs / w
     → get_or (map f (pieces w xs)) i 0 ≡ f (piece w xs i)
 get_or-pieces f w xs i lt =

@@ -38,7 +38,7 @@ string_of_right name cs all =
     ap (λ o. option_map_or (λ c. Err (InvalidRestrictedString (own_error name c))) o (Ok cs))
     (find_nothing (λ c. not (has_character (base_set name) c)) cs (λ k h. ap not (all k h)))
 
--- what holds of each place holds of all
+-- what holds at each index holds of all characters
 pub all_right : (set cs : List ℕ) → ((k : ℕ) → k < length cs → has_character set (get_or cs k 0) ≡ true)
     → All (λ c. has_character set c ≡ true) cs
 all_right set cs all i d lt = rw (get_or_default cs i d 0 lt) (all i lt)

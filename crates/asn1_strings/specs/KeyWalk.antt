@@ -8,7 +8,7 @@ use Rattle.asn1_characters.specs.declared.character_set.CharacterSetName.{Charac
 abbrev pub itself : KeyMap
 itself = record { count = 2 ^ 32; largest = 2 ^ 32 - 1; get = Some }
 
--- each of the first n characters is that of the key at its place, and the string may hold it
+-- each of the first n characters is that of the key at its index, and the string may hold it
 abbrev pub AreCharactersOf : CharacterSetName → (ℕ → Option ℕ) → List ℕ → ℕ → List ℕ → Type 0
 AreCharactersOf name get keys n cs =
     (k : ℕ) → k < n → (get (slice_index keys k) ≡ Some (slice_index cs k))

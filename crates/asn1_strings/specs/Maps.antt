@@ -20,7 +20,7 @@ pub record KeyMap : Type 0 where
   pub largest : ℕ
   pub get : ℕ → Option ℕ
 
--- the base set of a string, with its places as keys
+-- the base set of a string, with its indices as keys
 abbrev pub base_map : CharacterSetName → KeyMap
 base_map name = record {
   count = base_count name;
@@ -36,7 +36,7 @@ map_of_entries m = record {
   get = λ k. get nat_cmp m k;
 }
 
--- a key is wrong where it is missing, or where the string may not hold its character
+-- a key is invalid where it is missing, or where the string may not hold its character
 abbrev pub is_wrong_key : CharacterSetName → (ℕ → Option ℕ) → ℕ → Bool
 is_wrong_key name get k = option_map_or (λ c. not (has_character (base_set name) c)) (get k) true
 

@@ -2,7 +2,7 @@
 use Rattle.std.specs.Prelude.{◌+◌, ◌*◌, ◌/◌, ◌^◌, ℕ, List, [], ◌∷◌, length, map, take, drop}
 use Rattle.std.specs.List.{range_with_len}
 
--- the piece at a place, where each piece has w elements
+-- the piece at an index, where each piece has w elements
 abbrev pub piece : {X : Type 0} → ℕ → List X → ℕ → List X
 piece w xs i = take w (drop (i * w) xs)
 

@@ -53,7 +53,7 @@ impl RestrictedString<Bmp> {
     }
 }
 
-/// Puts the two octets of each unit in their places, the higher first.
+/// Writes the two octets of each unit, the higher first.
 fn put_octets(octets: &mut [u8], units: &[u16])
     requires { length octets.old ≡ 2 * length units.now }
     ensures { octets.new ≡ flat_map (to_be_bytes w16) units.now }

@@ -25,7 +25,7 @@ use std::collections::BTreeMap;
 /// A restricted character string (X.680 41): a list of characters, each in the string's base set.
 ///
 /// The calls that read a string examine the whole input, even if out of memory. Those that read
-/// bits allocate room for all characters before they look at the first.
+/// bits allocate room for all characters before they examine the first.
 ///
 /// # Errors
 ///
@@ -51,7 +51,7 @@ pub trait StaticPermittedAlphabet: HasCharacterSet + Sized + Drop {
 
     ghost CHARACTER_SET_WIDTH: { ℕ };
 
-    /// The least number of bits that gives each character of the set a code.
+    /// The least number of bits with a code for each character of the set.
     const CHARACTER_SET_WIDTH: usize;
 
     ghost CHARACTER_SET_MAX: { ℕ };
@@ -270,7 +270,7 @@ pub trait StaticPermittedAlphabet: HasCharacterSet + Sized + Drop {
 
     /// Returns the string of bits that an alphabet encodes (X.691 30.5). A map takes keys to
     /// characters; `None` is the base set with its indices as keys. Each character has the least
-    /// width of so many entries. If the largest character does not fit the width, the numbers are
+    /// width for as many entries. If the largest character does not fit the width, the numbers are
     /// keys; otherwise they are characters, and only the string's own set decides which are valid.
     ///
     /// The map must have at most 2^31 entries.
@@ -316,7 +316,7 @@ pub trait StaticPermittedAlphabet: HasCharacterSet + Sized + Drop {
         Self::try_from_permitted_alphabet(alloc, input.as_bitstr(), None)
     }
 
-    // The constants are what the table of base sets gives.
+    // The constants are those of the table of base sets.
     ghost ranges: { CHARACTER_SET_RANGES.name ≡ Self.CHARACTER_SET_NAME };
 
     ghost count: { CHARACTER_SET_COUNT ≡ base_count Self.CHARACTER_SET_NAME };
@@ -327,7 +327,7 @@ pub trait StaticPermittedAlphabet: HasCharacterSet + Sized + Drop {
 
     ghost indexed: { IS_INDEXED ≡ base_indexed Self.CHARACTER_SET_NAME };
 
-    // A character has as many octets as the standard gives it.
+    // A character has the number of octets that the standard says.
     ghost octets: { Self.T.OCTETS ≡ character_octets Self.CHARACTER_SET_NAME };
 
     // Every character of the set can be kept.

@@ -22,6 +22,6 @@ pub trait StringKind: fmt::Debug {
     /// Every character of the set can be kept.
     ghost fits: { (c : ℕ) → has_character (base_set NAME) c ≡ true → c < Self.T.limit };
 
-    /// A character has as many octets as the standard gives it.
+    /// A character has the number of octets that the standard says.
     ghost octets: { Self.T.OCTETS ≡ character_octets NAME };
 }

@@ -1,4 +1,4 @@
-//! Tests as rows of a program's input: each row is a call and the answer that is wanted.
+//! Tests as rows of a program's input: each row is a call and the expected answer.
 //!
 //! ```text
 //! # X.690 8.3: a comment, as is an empty line.
@@ -7,8 +7,8 @@
 //!
 //! A count in braces repeats a word, in a call and in an answer: `n1=1{70000}` is 70,000 words.
 //!
-//! A row costs no proof: each call that the rows name is proved once, in a function without a
-//! contract, and the program compares. No program but those of tests should use this crate.
+//! A row needs no proof: each call that rows name is proved once, in a function without a contract,
+//! and the program compares. Only test programs should use this crate.
 #![tactic(auto)]
 
 mod ranges;

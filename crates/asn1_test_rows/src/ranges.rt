@@ -4,8 +4,8 @@ use crate::rows::Answers;
 use crate::words::{RowError, show_value};
 use std::alloc::Global;
 
-/// The answer of a call, or, where one of its words is a range, its answers for each number there,
-/// one after another: of `half 6..9` those of `half 6`, `half 7` and `half 8`.
+/// Returns the answer to a call. If one of its words is a range, returns the answers for each
+/// number, one after another: for `half 6..9` those to `half 6`, `half 7` and `half 8`.
 pub fn answer_each<A: Answers>(
     alloc: Global,
     answers: &A,
@@ -26,8 +26,8 @@ pub fn answer_each<A: Answers>(
     Ok(text)
 }
 
-/// The index of the first word that is a range, with the range's first number and the one after its
-/// last.
+/// Returns the index of the first word that is a range, the range's first number, and the number
+/// after its last.
 fn range_in(words: &[&str]) -> Option<(usize, usize, usize)> {
     for (place, word) in words.iter().enumerate() {
         if let Some((first, end)) = word.split_once("..")
@@ -40,7 +40,7 @@ fn range_in(words: &[&str]) -> Option<(usize, usize, usize)> {
     None
 }
 
-/// The answer of a call with a number for one of its words.
+/// Returns the answer to a call with a number for one of its words.
 fn answer_at<A: Answers>(
     alloc: Global,
     answers: &A,

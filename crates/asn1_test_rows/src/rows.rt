@@ -1,4 +1,4 @@
-//! Rows, from an input to its end.
+//! Reads and answers rows.
 
 use crate::words::{RowError, parse_word, unfold_word};
 use std::alloc::Global;
@@ -6,13 +6,13 @@ use std::io::{BufRead, Write};
 
 /// What answers the rows of a program.
 pub trait Answers {
-    /// The answer of a call, in words; or why the row cannot be read.
+    /// Returns the answer to a call, in words, or why the row cannot be read.
     fn answer(&self, alloc: Global, call: &str, words: &[&str]) -> Result<String, RowError>;
 }
 
-/// Reads rows to the end of the input. Writes a line for each whose answer is another one or that
-/// cannot be read, and a last line with how many agree. Answers the status to end with: 0 where all
-/// agree, 1 elsewhere.
+/// Reads rows to the end of the input. Writes a line for each row whose answer is not the expected
+/// one or that cannot be read, and a last line with how many agree. Returns the exit status: 0 if
+/// all agree, otherwise 1.
 pub fn run<A: Answers, R: BufRead, W: Write>(
     alloc: Global,
     answers: &A,
@@ -56,7 +56,7 @@ fn objection<A: Answers>(
     }
 }
 
-/// The answer of a call with its words.
+/// Returns the answer to a call with its words.
 fn answer_of<A: Answers>(alloc: Global, answers: &A, call: &str) -> Result<String, RowError> {
     let words = words_of(alloc, call)?;
     match words.as_slice().split_first() {
@@ -65,7 +65,7 @@ fn answer_of<A: Answers>(alloc: Global, answers: &A, call: &str) -> Result<Strin
     }
 }
 
-/// Returns the words of a call, a word with a count in braces so many times.
+/// Returns the words of a call. A word with a count in braces is repeated.
 fn words_of<'a>(alloc: Global, call: &'a str) -> Result<Vec<&'a str>, RowError> {
     let mut words = Vec::new(alloc);
     for word in call.split_ascii_whitespace() {
@@ -87,7 +87,7 @@ fn counted<'a>(alloc: Global, word: &'a str) -> Result<(&'a str, u32), RowError>
     Ok((word, 1))
 }
 
-/// Returns the fault of an answer, if another one is wanted.
+/// Returns the fault of an answer, if it is not the expected one.
 fn difference(alloc: Global, answer: &str, wanted: &str) -> Result<Option<String>, RowError> {
     let mut spelled = String::new(alloc);
     let words = words_of(alloc, wanted)?;

@@ -6,21 +6,21 @@ use std::io;
 use std::str::FromStr;
 use thiserror::Error;
 
-/// Why rows come to no answer.
+/// Why rows have no answer.
 #[derive(Debug, Drop, Error)]
 pub enum RowError {
-    /// A row cannot be read: the fault of which word.
+    /// A row cannot be read: which word has which fault.
     #[error("{0}")]
     Word(String),
     /// The input cannot be read, or the output not written.
     #[error("{0}")]
     Io(#[from] io::Error),
-    /// There is no memory.
+    /// Out of memory.
     #[error("out of memory")]
     Memory(#[from(alloc)] AllocError),
 }
 
-/// The error of a word: `wrong(alloc, "12x", "number")` says that `12x` is no number.
+/// Returns the error of a word: `wrong(alloc, "12x", "number")` says that `12x` is no number.
 pub fn wrong(alloc: Global, word: &str, kind: &str) -> RowError {
     match format!(in alloc; "{word} is no {kind}") {
         Ok(text) => RowError::Word(text),
@@ -28,7 +28,7 @@ pub fn wrong(alloc: Global, word: &str, kind: &str) -> RowError {
     }
 }
 
-/// A word with its repetitions written out: `FF*3+00` is `FFFFFF00`, and `-` is nothing.
+/// Returns a word with its repetitions expanded: `FF*3+00` is `FFFFFF00`, and `-` is empty.
 pub fn unfold_word(alloc: Global, word: &str) -> Result<String, RowError> {
     let mut text = String::new(alloc);
     if word == "-" {
@@ -43,7 +43,7 @@ pub fn unfold_word(alloc: Global, word: &str) -> Result<String, RowError> {
     Ok(text)
 }
 
-/// Appends so many times the piece to the text.
+/// Appends the piece to the text, as often as the count says.
 fn repeat(alloc: Global, text: &mut String, piece: &str, count: &str) -> Result<(), RowError> {
     for _ in 0..parse_word::<u32>(alloc, count)? {
         text.push_str(piece)?;
@@ -51,7 +51,7 @@ fn repeat(alloc: Global, text: &mut String, piece: &str, count: &str) -> Result<
     Ok(())
 }
 
-/// The value that a word encodes, of a type that is read from text.
+/// Returns the value that a word encodes, of a type that is parsed from text.
 pub fn parse_word<T: FromStr>(alloc: Global, word: &str) -> Result<T, RowError>
 where
     T::Err: Drop,
@@ -62,7 +62,7 @@ where
     }
 }
 
-/// The number that a word encodes in decimal, `MIN` or `MAX` for the bounds of `i128`.
+/// Returns the number that a word encodes in decimal, `MIN` or `MAX` for the bounds of `i128`.
 pub fn number(alloc: Global, word: &str) -> Result<i128, RowError> {
     match word {
         "MIN" => Ok(i128::MIN),
@@ -71,8 +71,8 @@ pub fn number(alloc: Global, word: &str) -> Result<i128, RowError> {
     }
 }
 
-/// The octets that a word encodes in hexadecimal, with repetitions as `FF*4096` or `00FF*20+01`, or
-/// as characters after a `'`; `-` for none.
+/// Returns the octets that a word encodes: in hexadecimal, with repetitions such as `FF*4096` or
+/// `00FF*20+01`, or as characters after a `'`. `-` is no octets.
 pub fn octets(alloc: Global, word: &str) -> Result<Vec<u8>, RowError> {
     if let Some(text) = word.strip_prefix('\'') {
         return Ok(text.as_bytes().to_vec(alloc)?);
@@ -84,7 +84,7 @@ pub fn octets(alloc: Global, word: &str) -> Result<Vec<u8>, RowError> {
     }
 }
 
-/// The octets in hexadecimal of upper case, `-` for none.
+/// Returns the octets as upper-case hexadecimal digits, or `-` if there are none.
 pub fn hex_of(alloc: Global, octets: &[u8]) -> Result<String, RowError> {
     if octets.is_empty() {
         return Ok(String::from_str(alloc, "-")?);
@@ -92,7 +92,8 @@ pub fn hex_of(alloc: Global, octets: &[u8]) -> Result<String, RowError> {
     Ok(hex::encode_upper(alloc, octets)?)
 }
 
-/// The bits that a word encodes by `0` and `1`, with repetitions as `01*40+1`; `-` for none.
+/// Returns the bits that a word has as `0` and `1`, with repetitions such as `01*40+1`. `-` is no
+/// bits.
 pub fn bits(alloc: Global, word: &str) -> Result<Vec<bool>, RowError> {
     let digits = unfold_word(alloc, word)?;
     let mut bits = Vec::new(alloc);
@@ -106,7 +107,7 @@ pub fn bits(alloc: Global, word: &str) -> Result<Vec<bool>, RowError> {
     Ok(bits)
 }
 
-/// The bits as `0` and `1`, `-` for none.
+/// Returns the bits as `0` and `1`, or `-` if there are none.
 pub fn bits_of(alloc: Global, bits: &[bool]) -> Result<String, RowError> {
     if bits.is_empty() {
         return Ok(String::from_str(alloc, "-")?);
@@ -118,17 +119,17 @@ pub fn bits_of(alloc: Global, bits: &[bool]) -> Result<String, RowError> {
     Ok(text)
 }
 
-/// The boolean that a word encodes: `true` or `false`.
+/// Returns the boolean that a word encodes: `true` or `false`.
 pub fn boolean(alloc: Global, word: &str) -> Result<bool, RowError> {
     parse_word::<bool>(alloc, word)
 }
 
-/// A value as its text.
+/// Returns a value as text.
 pub fn show_value<T: Display + Drop>(alloc: Global, value: T) -> Result<String, RowError> {
     Ok(value.to_string(alloc)?)
 }
 
-/// A value or an error as its text.
+/// Returns a value or an error as text.
 pub fn outcome<T: Display + Drop, E: Display + Drop>(
     alloc: Global,
     tried: Result<T, E>,
@@ -139,7 +140,7 @@ pub fn outcome<T: Display + Drop, E: Display + Drop>(
     }
 }
 
-/// A value as its text, or `none`.
+/// Returns a value as text, or `none`.
 pub fn optional<T: Display + Drop>(alloc: Global, value: Option<T>) -> Result<String, RowError> {
     match value {
         Some(value) => show_value(alloc, value),
@@ -147,7 +148,7 @@ pub fn optional<T: Display + Drop>(alloc: Global, value: Option<T>) -> Result<St
     }
 }
 
-/// The one word of a call.
+/// Returns the one word of a call.
 pub fn one<'a>(alloc: Global, words: &[&'a str]) -> Result<&'a str, RowError> {
     match words {
         [word] => Ok(*word),
@@ -155,7 +156,7 @@ pub fn one<'a>(alloc: Global, words: &[&'a str]) -> Result<&'a str, RowError> {
     }
 }
 
-/// The two words of a call.
+/// Returns the two words of a call.
 pub fn two<'a>(alloc: Global, words: &[&'a str]) -> Result<(&'a str, &'a str), RowError> {
     match words {
         [first, second] => Ok((*first, *second)),
@@ -163,7 +164,7 @@ pub fn two<'a>(alloc: Global, words: &[&'a str]) -> Result<(&'a str, &'a str), R
     }
 }
 
-/// The three words of a call.
+/// Returns the three words of a call.
 pub fn three<'a>(
     alloc: Global,
     words: &[&'a str],
@@ -174,7 +175,7 @@ pub fn three<'a>(
     }
 }
 
-/// The error of a call with another number of words.
+/// Returns the error of a call with another number of words.
 fn count_of(alloc: Global, words: &[&str], wanted: usize) -> RowError {
     let count = words.len();
     match format!(in alloc; "{count} words in place of {wanted}") {

@@ -1,21 +1,21 @@
-//! Words of rows, for calls that need no reason: `None` says that a word cannot be read, or that
-//! there is no memory.
+//! Words of rows, for calls that need no reason: `None` means that a word cannot be read, or out of
+//! memory.
 
 use crate::words::{hex_of, octets, show_value};
 use std::alloc::Global;
 use std::fmt::Display;
 
-/// The octets that a word encodes in hexadecimal.
+/// Returns the octets that a word encodes in hexadecimal.
 pub fn octets_of(alloc: Global, word: &str) -> Option<Vec<u8>> {
     octets(alloc, word).ok()
 }
 
-/// The number that a word encodes in decimal.
+/// Returns the number that a word encodes in decimal.
 pub fn size(word: &str) -> Option<usize> {
     word.parse::<usize>().ok()
 }
 
-/// The wide number that a word encodes in decimal.
+/// Returns the wide number that a word encodes in decimal.
 pub fn wide(word: &str) -> Option<u128> {
     word.parse::<u128>().ok()
 }
@@ -39,7 +39,7 @@ pub fn push_number(alloc: Global, text: &mut String, number: u128) -> Option<()>
     push_shown(alloc, text, number)
 }
 
-/// Appends octets in hexadecimal, `-` for none.
+/// Appends octets in hexadecimal, or `-` if there are none.
 pub fn push_octets(alloc: Global, text: &mut String, octets: &[u8]) -> Option<()> {
     let digits = hex_of(alloc, octets).ok()?;
     append(text, digits.as_str())

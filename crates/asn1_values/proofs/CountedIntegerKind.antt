@@ -1,4 +1,4 @@
--- The laws of counted integers as fields: an octet, and after it an integer of so many octets.
+-- The laws of counted integers as fields: an octet, and after it an integer of as many octets.
 use Rattle.std.proofs.Common.{◌≡◌, ℕ, ◌+◌, ◌-◌, ◌*◌, ◌<◌, ◌≤◌, ℤ, Bool, true, false, eqb, ltb, List, ◌∷◌, ◌++◌, length, take, drop, Result, Ok, Err, refl, sym, ap, subst, ◌∙◌, append_assoc, arith, inl, inr}
 use Rattle.std.specs.Prelude.{◌||◌, is_ok}
 use Rattle.std.proofs.lemmas.List.{length-append, take_at, drop_at, length-take, length-drop, take-append-drop}
@@ -97,7 +97,7 @@ counted_takes list k (Integer n) rest le is count t =
     }
 counted_takes list k field rest le is count t = absurd t.of_shape
 
--- why no integer is there is why no counted one is
+-- why no integer can be read is why no counted one can
 counted_reason : (list : List Bool) (fault : Fault) → 8 ≤ length list → IsCount (first_octet list)
     → IsReason (OfInteger (first_octet list)) (drop 8 list) fault → IsReason OfCountedInteger list fault
 counted_reason list NotInteger le count (inl none) = let some = count.0 in absurd (omega arith)
@@ -187,7 +187,7 @@ integer_there : (r : Read) → is_ok (counted r) ≡ true → is_ok r ≡ true
 integer_there (Ok x) e = refl
 integer_there (Err fault) e = absurd cc
 
--- where a counted integer can be read, its first octet is there, and after it an integer of so many octets
+-- where a counted integer can be read, it has its first octet, and after it an integer of as many octets
 pub counted_there : (list : List Bool) → is_ok (field_at OfCountedInteger list) ≡ true
     → (8 ≤ length list) × (is_no_count (first_octet list) ≡ false)
     × (is_ok (integer_at (first_octet list) (drop 8 list)) ≡ true)

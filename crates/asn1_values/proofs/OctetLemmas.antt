@@ -44,7 +44,7 @@ octets_of-bits (x ∷ xs) h =
           xs (All-tail (λ octet. octet < 256) x xs h),
     ) refl
 
--- the octet at a place
+-- the octet at an index
 pub get_or-octets_of : (n i : ℕ) (list : List Bool) → i < n
     → get_or (octets_of n list) i 0 ≡ number (take 8 (drop (8 * i) list))
 get_or-octets_of zero i list lt = absurd (omega arith)

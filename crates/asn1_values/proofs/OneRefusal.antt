@@ -1,4 +1,4 @@
--- One error holds alone: the first fault, and the first misfit, have one place and one reason.
+-- One error holds alone: the first fault, and the first misfit, have one index and one reason.
 use Rattle.std.proofs.Common.{◌≡◌, ◌≢◌, ℕ, zero, suc, ◌+◌, ◌*◌, ◌^◌, ◌<◌, ◌≤◌, Bool, List, [], ◌∷◌, length, take, refl, sym, ap, subst, ◌∙◌, arith, inl, inr, ◌⊎◌}
 use Rattle.std.proofs.lemmas.Bool.{cases_lt}
 use Rattle.asn1_values.specs.declared.bit_fields.error.ReadError.{ReadError}
@@ -24,7 +24,7 @@ missing_same asked m n left p q = omega arith
 same_short : (m n : ℕ) → m ≡ n → Short m ≡ Short n
 same_short m n e = ap (λ (k : ℕ). Short k) e
 
--- an integer's octets are there, or they are missing
+-- an integer's octets are present, or they are missing
 there_or_short : (count n : ℕ) (left : List Bool)
     → (count ≡ 0) ⊎ ((8 * count ≤ length left) × IsNoInteger (take (8 * count) left)) → 0 < count
     → IsShortBy (8 * count) left n → ⊥
@@ -243,7 +243,7 @@ one_misfit fields i j a b p q = elim (cases_lt i j) [
   ]
 ]
 
--- the error that names a misfit and its place
+-- the error that names a misfit and its field
 refused_at : ℕ → Misfit → WriteError
 refused_at i (WidthOver width) = writing.NumberWidth i width
 refused_at i PastWidth = writing.Number i

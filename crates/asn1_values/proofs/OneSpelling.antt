@@ -1,4 +1,4 @@
--- Fields have one encoding, where no alphabet gives a character two codes.
+-- Fields have one encoding, if no alphabet has a character with two codes.
 use Rattle.std.proofs.Common.{inl, inr, arith, ◌≡◌, ℕ, ◌+◌, ◌*◌, List, [], ◌∷◌, ◌++◌, Bool, Option, Some, None, length, sym, ap, subst, ◌∙◌}
 use Rattle.std.specs.Prelude.{IfSome}
 use Rattle.asn1_alphabets.specs.Alphabet.{Alphabet}
@@ -35,7 +35,7 @@ pub written_again : (fs : List plain.Field) (old left : List Bool) (shapes : Lis
 written_again fs old left shapes b one list s = b.parts
     ∙ ap (λ (l : List Bool). l ++ left) (all_one fs b.front list (in_one_code fs shapes b.of_shapes one) b.spelled s)
 
--- the contents have so many octets
+-- the contents have `count` octets
 pub contents_length : (arcs octets : List ℕ) (count : ℕ) → IsContents arcs octets → HasContentsLength arcs count
     → length octets ≡ count
 contents_length arcs octets count c (inl h) = ap length (contents_only arcs octets h.0 c h.1) ∙ h.2
@@ -78,7 +78,7 @@ equally_long (shape ∷ shapes) (f ∷ fields) list z s =
     (equally_long shapes fields s.1 z.1 s.3) in
     subst (λ (k : ℕ). IfSome (needs (shape ∷ shapes)) (λ n. k ≡ n)) (sym sum) known
 
--- and the fields take so many bits of what they begin
+-- and the fields take that many bits of what they begin
 moved_by : (known : Option ℕ) (front rest whole : List Bool) → whole ≡ front ++ rest
     → IfSome known (λ n. length front ≡ n) → IfSome known (λ n. length whole ≡ n + length rest)
 moved_by (Some n) front rest whole parts len = omega (arith, ap length parts, length-append front rest)

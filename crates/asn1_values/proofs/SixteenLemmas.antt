@@ -12,7 +12,7 @@ use Rattle.asn1_bits.specs.Laws.DigitLaws.{bits-push, length-bits}
 use Rattle.asn1_bits.specs.Laws.NumberLaws.{digits-append, digits-low}
 use Rattle.asn1_values.specs.Steps.{PushesList}
 
--- of all octets those before the rest were taken, the last of them as a word of so many bits that is yet to be pushed
+-- of all octets those before the rest were taken, the last of them as a word of `width` bits that is yet to be pushed
 pub record Pushing (old now : BitAppender) (all rest : List ℕ) (word width count_old count_now : ℕ) : Type 0 where
   pub lender : lender_of now ≡ lender_of old
   pub front : List ℕ

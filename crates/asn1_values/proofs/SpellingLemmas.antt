@@ -203,7 +203,7 @@ pub space_of : (field : Field) (list : List Bool) (n space : ℕ) → TakesBits 
     → HasRoomFor field space → n ≤ space
 space_of field list n space s len enough = let r = enough.each list s in omega arith
 
--- a list of n bits was pushed, in turns for so many
+-- a list of n bits was pushed, in turns for them
 pub list_pushed : (list : List Bool) (n : ℕ) (old new : BitAppender) (turns_old turns_new : ℕ) → length list ≡ n
     → lender_of new ≡ lender_of old → bits_written new ≡ bits_written old ++ list → room new + n ≡ room old
     → turns_new + words_placed old ≡ turns_old + words_placed new
@@ -306,7 +306,7 @@ module _ (fields before after : List Field) (field : Field) (cut : fields ≡ be
         ),
       )
 
--- ---- fields of the program, by their places
+-- ---- fields of the program, by their indices
 
 pub cut_of : (fs : List Program) (i : ℕ) (x : Program) → i < length fs → x ≡ get_or fs i x
     → plain_fields fs ≡ plain_fields (take i fs) ++ plain_field x ∷ plain_fields (drop (i + 1) fs)

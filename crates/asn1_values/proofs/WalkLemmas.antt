@@ -62,7 +62,7 @@ past_stop i shape shapes list e h =
     let n : i + 0 ≡ i = omega arith in
     rw (p.1, n, p.2) refl
 
--- ---- the same at a place of the program's shapes
+-- ---- the same at an index of the program's shapes
 
 shapes_more : (ss : List Shape) (i : ℕ) (x : Shape) → i < length ss → x ≡ get_or ss i x
     → plain_shapes (drop i ss) ≡ plain_shape x ∷ plain_shapes (drop (i + 1) ss)

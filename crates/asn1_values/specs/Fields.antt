@@ -41,7 +41,7 @@ IsSpelledBy (CountedInteger n) list =
     (octets : List ℕ) × IsShortest n octets × (length octets ≤ 127) × (list ≡ bits (length octets ∷ octets))
 IsSpelledBy (Identifier arcs) list = (octets : List ℕ) × IsContents arcs octets × FitU32 arcs × (list ≡ bits octets)
 
--- the contents of the arcs have so many octets; those of one arc, which has none, have 0
+-- the contents of the arcs have `count` octets; those of one arc, which has none, have 0
 abbrev pub HasContentsLength : List ℕ → ℕ → Type 0
 HasContentsLength arcs count =
     ((octets : List ℕ) × IsContents arcs octets × (length octets ≡ count)) ⊎ ((length arcs ≡ 1) × (count ≡ 0))
@@ -117,7 +117,7 @@ abbrev pub HasOneSpelling : Field → Type 0
 HasOneSpelling (Character alphabet c) = GivesOneCodeEach alphabet
 HasOneSpelling field = ⊤
 
--- no alphabet that the fields use gives a character two codes
+-- no alphabet that the fields use has a character with two codes
 abbrev pub HaveOneSpelling : List Field → Type 0
 HaveOneSpelling fields = AllByRecursion HasOneSpelling fields
 
@@ -125,6 +125,6 @@ abbrev pub GivesOneSpelling : Shape → Type 0
 GivesOneSpelling (OfCharacter alphabet) = GivesOneCodeEach alphabet
 GivesOneSpelling shape = ⊤
 
--- no alphabet that the shapes name gives a character two codes
+-- no alphabet that the shapes name has a character with two codes
 abbrev pub GiveOneSpelling : List Shape → Type 0
 GiveOneSpelling shapes = AllByRecursion GivesOneSpelling shapes

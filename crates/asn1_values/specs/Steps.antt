@@ -22,7 +22,7 @@ use Rattle.asn1_values.specs.Wrong.{Fault, NumberWidth, NotInteger, Short, NoCha
 
 -- ---- reading
 
--- the error that names a fault and its place
+-- the error that names a fault and its field
 abbrev pub error_at : ℕ → Fault → ReadError
 error_at field (NumberWidth width) = reading.NumberWidth field width
 error_at field NotInteger = reading.Integer field
@@ -37,7 +37,7 @@ abbrev pub past : ℕ → Result (Field × List Bool) Fault → Result (List Boo
 past i (Ok x) = Ok x.1
 past i (Err fault) = Err (error_at i fault)
 
--- what is left after fields, of which the first is at this place
+-- what is left after fields, of which the first is at this index
 abbrev pub past_all : ℕ → Result (List Field × List Bool) (ℕ × Fault) → Result (List Bool) ReadError
 past_all i (Ok x) = Ok x.1
 past_all i (Err e) = Err (error_at (i + e.0) e.1)
@@ -54,7 +54,7 @@ pub record Takes (n : ℕ) (old new front : BitReader) : Type 0 where
   pub moved : Moves n old new
   pub rest : bits_left new ≡ drop n (bits_left old)
 
--- so many bits were taken, or the error says how many are missing
+-- `n` bits were taken, or the error says how many are missing
 pub record Cuts (n at : ℕ) (old new : BitReader) (result : Result BitReader ReadError) : Type 0 where
   pub taken : IfOk result (Takes n old new)
   pub short : IfErr result (λ e. (length (bits_left old) < n) × (e ≡ reading.Short at (n - length (bits_left old))))
@@ -117,7 +117,7 @@ pub record Appends (shape : Shape) (old new : BitReader) (before after : List In
       → view_left new ≡ part (view_left old) (length list) ((view_left old).len - length list)
 
 -- the next field was read so, without growth; or the error names the fault of the field at this
--- place, unless memory was wanting
+-- index, unless out of memory
 pub record AppendsNext {Z : Type 0} (shape : Shape) (at : ℕ) (old new : BitReader) (before after : Vec InMemory Z)
     (result : Result Unit ReadError) : Type 0 where
   pub read : OnOk result (Appends shape old new (vec_items before) (vec_items after))
@@ -137,7 +137,7 @@ pub record Collects {Z : Type 0} (shapes : List Shape) (old new : BitReader) (re
 
 -- ---- writing
 
--- the error names the misfit of the field at this place
+-- the error names the misfit of the field at this index
 abbrev pub NamesMisfit : ℕ → Field → WriteError → Type 0
 NamesMisfit i field (writing.NumberWidth at width) = (at ≡ i) × IsMisfit field (WidthOver width)
 NamesMisfit i field (writing.Number at) = (at ≡ i) × IsMisfit field PastWidth
@@ -176,7 +176,7 @@ pub record HasLength (P : Spelling) (field : Field) (n : ℕ) : Type 0 where
 abbrev pub FitsIn : Field → ℕ → Type 0
 FitsIn field n = HasLength IsSpelledBy field n
 
--- the field fits, in so many bits, or the error names its misfit
+-- the field fits, in as many bits as the result says, or the error names its misfit
 pub record Measures (at : ℕ) (field : Field) (result : Result ℕ WriteError) : Type 0 where
   pub ok : IfOk result (FitsIn field)
   pub err : IfErr result (NamesMisfit at field)
@@ -206,7 +206,7 @@ pub record HaveRoom (fields : List Field) (space : ℕ) : Type 0 where
   pub joined : AreJoined TakesBits fields list
   pub each : (others : List Bool) → AreJoined TakesBits fields others → length others ≤ space
 
--- there is room for the bits of one field, which has some, after so many others
+-- there is room for the bits of one field, which has some, after `width` bits of others
 pub record HasRoomBehind (field : Field) (width space : ℕ) : Type 0 where
   pub some : (list : List Bool) × TakesBits field list
   pub each : (list : List Bool) → TakesBits field list → width + length list ≤ space
@@ -287,12 +287,12 @@ pub record PushesIfFits (field : Field) (old new : BitAppender)
   pub pushed : OnSome result (PushesBehind field old new word width word_new width_new turns_old turns_new)
   pub refused : IfNone result (PushesNone field old new)
 
--- so many turns were taken for the fields, whichever list encodes them
+-- turns were taken for the fields, whichever list encodes them
 pub record TakeTurns (fields : List Field) (old new : ℕ) : Type 0 where
   pub at_least : (list : List Bool) → AreSpelledBy fields list → old + div_ceil (length list) 64 ≤ new
   pub at_most : (list : List Bool) → AreSpelledBy fields list → new ≤ old + length list / 64 + 8 * length fields
 
--- the fields can be appended to n bits: in so many more is room for them, each list that encodes them
+-- the fields can be appended to n bits: `additional` more hold them, each list that encodes them
 -- is as long, and usize counts the sum
 pub record CanBeAppended (fields : List Field) (n additional : ℕ) : Type 0 where
   pub room : HaveRoom fields additional
@@ -322,27 +322,27 @@ pub record PushesAllIfFit (fields : List Field) (old new : BitAppender) (turns_o
 
 -- ---- writing over the old bits
 
--- bits that end at the place end within n bits, and usize counts it
+-- bits that end at the index end within n bits, and usize counts it
 abbrev pub IsReached : ℕ → ℕ → Type 0
 IsReached n place = (place ≤ n) × (place < 2 ^ 64)
 
--- a word holds so many digits, and from a place on they are within n bits
+-- a word holds `width` digits, and from an index on they are within n bits
 pub record DigitsFit (n place width : ℕ) : Type 0 where
   pub few : width ≤ 128
   pub within : IsReached n (place + width)
 
--- the field fits, and its bits from a place on are within n bits
+-- the field fits, and its bits from an index on are within n bits
 pub record FitsWithin (n place : ℕ) (field : Field) : Type 0 where
   pub fits : Fits field
   pub within : (list : List Bool) → IsSpelledBy field list → IsReached n (place + length list)
 
--- the fields all fit, and with them from a place on n bits are reached
+-- the fields all fit, and with them from an index on n bits are reached
 pub record EndWithin (n place : ℕ) (fields : List Field) : Type 0 where
   pub list : List Bool
   pub spelled : AreSpelledBy fields list
   pub within : (others : List Bool) → AreSpelledBy fields others → IsReached n (place + length others)
 
--- the list was written over the bits from a place on, up to the next place
+-- the list was written over the bits from an index on, up to the next index
 pub record WritesOver (list : List Bool) (place : ℕ) (old new : List Bool) (next : ℕ) : Type 0 where
   pub written : new ≡ overwritten old place list
   pub end : next ≡ place + length list

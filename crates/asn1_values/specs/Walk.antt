@@ -1,5 +1,5 @@
--- A list of bits taken apart field by field, as the code does it; it stops at the field that is not
--- there. No public contract cites this.
+-- A list of bits taken apart field by field, as the code does it; it stops at the field that cannot
+-- be read. No public contract cites this.
 use Rattle.std.specs.Prelude.{ℕ, zero, suc, ◌-◌, ◌*◌, ◌==◌, ◌||◌, ◌&&◌, Bool, List, [], ◌∷◌, length, take, drop, slice_get, Option, Some, None, Result, Ok, Err, nat_lt, if◌then◌else◌}
 use Rattle.asn1_bits.specs.Bits.{number}
 use Rattle.asn1_number.specs.Octets.{signed}
@@ -43,7 +43,7 @@ abbrev pub integer_content : ℕ → List Bool → Result Field Fault
 integer_content count front =
     if nat_lt 1 count && nine_alike front then Err NotInteger else Ok (Integer (signed (octets_of count front)))
 
--- an integer of so many octets
+-- an integer of `count` octets
 unfoldable pub integer_at : ℕ → List Bool → Result (Field × List Bool) Fault
 integer_at count list = if count == 0 then Err NotInteger else cut_at (8 * count) (integer_content count) list
 
@@ -96,12 +96,12 @@ field_at OfCountedInteger list =
 field_at (OfIdentifier count) list =
     if count == 0 then Err NotIdentifier else cut_at (8 * count) (identifier_content count) list
 
--- a field before others, whose faults are then one place further on
+-- a field before others, whose faults are then one index further on
 abbrev pub in_front : Field → Result (List Field × List Bool) (ℕ × Fault) → Result (List Field × List Bool) (ℕ × Fault)
 in_front field (Ok x) = Ok (field ∷ x.0, x.1)
 in_front field (Err e) = Err (suc e.0, e.1)
 
--- the first field, and the others, read from the bits that it leaves; its fault is that of place 0
+-- the first field, and the others, read from the bits that it leaves; its fault is that of index 0
 abbrev pub first_and : (List Bool → Result (List Field × List Bool) (ℕ × Fault)) → Result (Field × List Bool) Fault
     → Result (List Field × List Bool) (ℕ × Fault)
 first_and others (Ok x) = in_front x.0 (others x.1)

@@ -1,4 +1,4 @@
--- The first wrong field, and its reason.
+-- The first invalid field, and its reason.
 use Rattle.std.specs.Prelude.{◌≡◌, ℕ, ◌+◌, ◌*◌, ◌^◌, ◌<◌, ◌≤◌, ◌⊎◌, Bool, List, Some, length, take, drop, slice_get}
 use Rattle.asn1_bits.specs.Bits.{number, bits}
 use Rattle.asn1_number.specs.Octets.{IsShortest}
@@ -9,7 +9,7 @@ use Rattle.asn1_values.specs.Fields.{Field, Shape, IsSpelledBy, Begins, Number, 
 
 -- ---- reading
 
--- the fault at a field's place in a list of bits
+-- the fault at a field's index in a list of bits
 pub data Fault : Type 0 where
   NumberWidth : ℕ → Fault
   NotInteger : Fault
@@ -19,7 +19,7 @@ pub data Fault : Type 0 where
   NotIdentifier : Fault
   ArcOver : Fault
 
--- so many bits are asked for, and n are missing
+-- `asked` bits are needed, and n are missing
 abbrev pub IsShortBy : ℕ → List Bool → ℕ → Type 0
 IsShortBy asked left n = (0 < n) × (length left + n ≡ asked)
 
@@ -32,7 +32,7 @@ abbrev pub HoldsLargeArc : List Bool → Type 0
 HoldsLargeArc list = (octets : List ℕ) × (arcs : List ℕ) × (list ≡ bits octets) × IsContents arcs octets
     × ¬ (FitU32 arcs)
 
--- a counted integer can have so many octets
+-- a counted integer can have `k` octets
 abbrev pub IsCount : ℕ → Type 0
 IsCount k = (1 ≤ k) × (k ≤ 127)
 
@@ -72,7 +72,7 @@ IsReason shape left fault = ⊥
 abbrev pub CanBegin : List Bool → List Shape → Type 0
 CanBegin list shapes = (fields : List Field) × (rest : List Bool) × Begins list shapes fields rest
 
--- i is the least place such that no fields of the shapes up to it begin the list, and the fault is
+-- i is the least index such that no fields of the shapes up to it begin the list, and the fault is
 -- its reason
 pub record IsFirstFault (list : List Bool) (shapes : List Shape) (i : ℕ) (fault : Fault) : Type 0 where
   pub within : i < length shapes
@@ -105,7 +105,7 @@ IsMisfit (CountedInteger n) PastLength = (octets : List ℕ) × IsShortest n oct
 IsMisfit (Identifier arcs) TooFewArcs = length arcs < 2
 IsMisfit field misfit = ⊥
 
--- i is the least place of a field that doesn't fit, and the misfit is its reason
+-- i is the least index of a field that doesn't fit, and the misfit is its reason
 pub record IsFirstMisfit (fields : List Field) (i : ℕ) (misfit : Misfit) : Type 0 where
   pub within : i < length fields
   pub wrong : (field : Field) → slice_get fields i ≡ Some field → Fits field → ⊥

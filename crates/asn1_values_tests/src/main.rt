@@ -1,8 +1,9 @@
 //! Tests of octet strings, character strings and alphabets, and of bit fields: a program that answers
 //! the rows of its stored input.
 //!
-//! A row's call is named by a type and a function of `asn1_characters` or `asn1_strings`, as
-//! `NumericString::try_from_slice 20 = 1 32`, or by a function of `asn1_values`, as `read_fields`.
+//! A row calls a function of a type of `asn1_characters` or `asn1_strings`, such as
+//! `NumericString::try_from_slice 20 = 1 32`, or a function of `asn1_values`, such as
+//! `read_fields`.
 #![tactic(auto)]
 
 mod bit_fields;
@@ -13,7 +14,7 @@ use std::alloc::Global;
 use std::io::BufReader;
 use std::process::ExitCode;
 
-/// The calls of the crates.
+/// Answers the calls of the crates.
 struct Calls;
 
 impl Answers for Calls {

@@ -16,7 +16,7 @@ mod types;
 use asn1_test_rows::RowError;
 use std::alloc::Global;
 
-/// The answer of a function of a type or a module.
+/// Returns the answer to a call of a function of a type or a module.
 pub fn answer(alloc: Global, owner: &str, name: &str, words: &[&str]) -> Result<String, RowError> {
     match owner {
         "CharacterAlphabet" => alphabets::answer(alloc, name, words),

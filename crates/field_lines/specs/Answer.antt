@@ -35,7 +35,7 @@ abbrev pub IsFieldsAnswer : List Bool → List Shape → Answer → Type 0
 IsFieldsAnswer list shapes answer =
     (fields : List Field) × (rest : List Bool) × Begins list shapes fields rest × IsPrinted fields (length rest) answer
 
--- no fields of the shapes begin the bits; the first that is wrong is named
+-- no fields of the shapes begin the bits; the first that is invalid is named
 abbrev pub IsRefusalAnswer : List Bool → List Shape → Answer → Type 0
 IsRefusalAnswer list shapes answer =
     (e : ReadError) × (e ≢ Memory) × IsReadRefusal list shapes e
@@ -70,7 +70,7 @@ IsOctetsAnswer lines shapes =
 abbrev pub IsShapesAnswer : Lines → Answer → Type 0
 IsShapesAnswer lines = OrElse (AreWords lines.shapes) (codes "bad shapes") (IsOctetsAnswer lines)
 
--- the answer to the input: the first line that is wrong decides
+-- the answer to the input: the first line that is invalid decides
 abbrev pub IsAnswer : List ℕ → Answer → Type 0
 IsAnswer text = OrElse (AreLines text) (codes "bad input") IsShapesAnswer
 

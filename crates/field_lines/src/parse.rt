@@ -145,6 +145,10 @@ fn counted_shape(letter: u8, count: usize) -> Option<Shape<'static>>
 
 /// Returns the shapes that the words of the line name, separated by single spaces; `None` for
 /// another line.
+///
+/// # Errors
+///
+/// Returns an error if out of memory.
 pub fn shapes(alloc: Global, line: &[u8]) -> Result<Option<Vec<Shape<'static>>>, AllocError>
     ensures { IfOk result (λ found. MatchOption found
         ((shapes : List plain.Shape) → ¬ (AreWords line.now shapes))
@@ -165,6 +169,10 @@ pub fn shapes(alloc: Global, line: &[u8]) -> Result<Option<Vec<Shape<'static>>>,
 }
 
 /// Returns the octets that the line has in hexadecimal of either case; `None` for another line.
+///
+/// # Errors
+///
+/// Returns an error if out of memory.
 pub fn octets(alloc: Global, line: &[u8]) -> Result<Option<Vec<u8>>, AllocError>
     ensures { IfOk result (λ found. MatchOption found
         ((octets : List ℕ) → ¬ (decode_of line.now ≡ Ok octets))

@@ -11,6 +11,10 @@ use std::fmt::Write;
 
 /// Returns a line for each field, then the number of bits that are left, then the octets of the
 /// fields written again.
+///
+/// # Errors
+///
+/// Returns an error if out of memory.
 pub fn print_fields(
     alloc: Global,
     fields: &[Field<'_, '_>],
@@ -38,8 +42,8 @@ fn print_all(alloc: Global, fields: &[Field<'_, '_>]) -> Result<String, AllocErr
     Ok(text)
 }
 
-/// `n` and the number in decimal, `o` and the octets, `b` and the bits, `i` or `c` and the shortest
-/// octets, `a` and the character in decimal, or `d` and the arcs with full stops.
+/// Appends `n` and the number in decimal, `o` and the octets, `b` and the bits, `i` or `c` and the
+/// shortest octets, `a` and the character in decimal, or `d` and the arcs with full stops.
 fn print_field(alloc: Global, text: &mut String, field: &Field<'_, '_>) -> Result<(), AllocError>
     ensures { OnOk result
         (string_bytes text.new
@@ -56,7 +60,7 @@ fn print_field(alloc: Global, text: &mut String, field: &Field<'_, '_>) -> Resul
     }
 }
 
-/// `b`, and the digits of the bits, or `-` where there are none.
+/// Appends `b` and the digits of the bits, or `-` if there are none.
 fn print_bits(text: &mut String, bits: BitStr<'_>) -> Result<(), AllocError>
     ensures { OnOk result (string_bytes text.new
         ≡ string_bytes text.old
@@ -70,7 +74,7 @@ fn print_bits(text: &mut String, bits: BitStr<'_>) -> Result<(), AllocError>
     text.push('\n')
 }
 
-/// A digit for each bit.
+/// Appends a digit for each bit.
 fn push_digits(text: &mut String, bits: BitStr<'_>) -> Result<(), AllocError>
     ensures { OnOk result
         (string_bytes text.new ≡ string_bytes text.old ++ digits_of_bits (bits_of bits.entry)) }
@@ -88,7 +92,7 @@ fn digit(bit: bool) -> char
     if bit { '1' } else { '0' }
 }
 
-/// A label, and the shortest octets of the number.
+/// Appends a label and the shortest octets of the number.
 fn print_integer(
     alloc: Global,
     text: &mut String,
@@ -103,7 +107,7 @@ fn print_integer(
     print_octets(alloc, text, label, number.signed_octets().as_ref())
 }
 
-/// A label, and the octets in lower-case hexadecimal, or `-` where there are none.
+/// Appends a label and the octets in lower-case hexadecimal, or `-` if there are none.
 fn print_octets(
     alloc: Global,
     text: &mut String,
@@ -121,6 +125,10 @@ fn print_octets(
 }
 
 /// Returns the line for an input that does not begin with fields of the shapes.
+///
+/// # Errors
+///
+/// Returns an error if out of memory.
 pub fn print_fault(alloc: Global, error: ReadError) -> Result<String, AllocError>
     ensures { IfOk result
         (λ text. string_bytes text ≡ line (codes "refused: " ++ error_text error)) }

@@ -23,14 +23,14 @@ pub fn read_to_end<R: Read>(alloc: Global, input: &mut R) -> Result<Vec<u8>, Str
         (λ text. Consumes (R.remaining input.old) (R.remaining input.new) text.items) }
     ensures end { OnOk result (IsAtEnd (R.remaining input.new)) }
     ensures err { IfErr result (λ e. e ≢ StreamError.Write) }
-    // An input that gave no octet is never out of memory.
+    // An input that returned no octet is never out of memory.
     ensures memory { IfErr result (λ e. e ≡ StreamError.Memory → (text : List ℕ)
         × (0 < length text) × Consumes (R.remaining input.old) (R.remaining input.new) text) }
 {
     read_within(alloc, input, READS)
 }
 
-/// Reads as `read_to_end` does, an input that ends within so many reads.
+/// Reads as `read_to_end` does, an input that ends within `reads` reads.
 pub(crate) fn read_within<R: Read>(
     alloc: Global,
     input: &mut R,

@@ -7,7 +7,7 @@ use crate::writing::write_all;
 use std::io::{self, ErrorKind, Read, Write};
 use std::test::Fail;
 
-/// Gives an octet a read, so many times, and then fails.
+/// Returns one octet a read, for a number of reads, and then fails.
 #[derive(Drop)]
 struct Broken {
     left: usize,
@@ -34,7 +34,7 @@ fn a_read_that_fails_is_named(rt: HostRuntime) -> Result<(), Fail> {
     Ok(())
 }
 
-/// Gives an octet a read, and does not end.
+/// Returns one octet a read, without end.
 #[derive(Drop)]
 struct Endless {
     given: usize,
@@ -83,7 +83,7 @@ impl Write for Buffered {
     }
 }
 
-/// Whether 20 octets are flushed, or where that fails, the error says so.
+/// Returns whether 20 octets are flushed, or if that fails, the error says so.
 fn is_flushed(fails: bool) -> bool {
     let mut output = Buffered {
         fails,

@@ -31,7 +31,7 @@ pub fn write_all<W: Write>(output: &mut W, octets: &[u8]) -> Result<(), StreamEr
     Err(StreamError::Write)
 }
 
-/// Writes a front of the octets, and answers of how many; of none where the call was interrupted.
+/// Writes a front of the octets, and returns how many it wrote: none if the call was interrupted.
 fn write_some<W: Write>(output: &mut W, octets: &[u8]) -> Result<usize, StreamError>
     ensures few { IfOk result (λ count. count ≤ length octets.now) }
     ensures written { IfOk result (λ count.

@@ -1,5 +1,5 @@
-//! Reads a certificate (X.509, RFC 5280) in DER from standard input, and prints what is in it: serial number,
-//! signature algorithm, names and validity. The octets are looked at by the functions of the library alone.
+//! Reads a certificate (X.509, RFC 5280) in DER from standard input, and prints its serial number, signature
+//! algorithm, names and validity. Only functions of the library read the octets.
 
 use asn1_values::{
     arcs, decimal, der_bits, der_generalized_time, der_utc_time, dotted, is_shortest, next_element,
@@ -18,7 +18,7 @@ impl<'a> Reader<'a> {
         Ok(element)
     }
 
-    /// The contents of the next element, which has the universal tag.
+    /// Returns the contents of the next element, which has the universal tag.
     fn expect(&mut self, number: u64, constructed: bool) -> Result<&'a [u8], Box<dyn Error>> {
         let element = self.next()?;
         if !element.is_universal(number) || element.constructed != constructed {
@@ -35,7 +35,7 @@ impl<'a> Reader<'a> {
         if self.0.is_empty() {
             return Ok(());
         }
-        Err("more behind the last element".into())
+        Err("more after the last element".into())
     }
 
     fn identifier(&mut self) -> Result<String, Box<dyn Error>> {
@@ -78,7 +78,7 @@ impl<'a> Reader<'a> {
     }
 }
 
-/// The kind of string of a universal tag.
+/// Returns the kind of string of a universal tag.
 fn kind(number: u64) -> Option<StringKind> {
     match number {
         18 => Some(StringKind::Numeric),
@@ -90,7 +90,7 @@ fn kind(number: u64) -> Option<StringKind> {
     }
 }
 
-/// The text of a string, or the octets of another value.
+/// Returns the text of a string, or the octets of another value.
 fn text(value: &Element<'_>) -> Result<String, Box<dyn Error>> {
     let is_plain = value.class == Class::Universal && !value.constructed;
     let text = match kind(value.number) {

@@ -1,6 +1,6 @@
 //! Reads a certificate (X.509, RFC 5280) in DER from standard input as fields of all seven kinds, and writes these
-//! fields again, at bit 0 and at bit 3 of other octets. What is a field of which kind: see
-//! `bindings/c/certificate_fields.c`.
+//! fields again, at bit 0 and at bit 3 of other octets. `bindings/c/certificate_fields.c` says which part is a field
+//! of which kind.
 
 use asn1_values::{
     next_element, read_fields, write_fields, Alphabet, Class, DerError, Element, Shape, StringKind,
@@ -8,8 +8,8 @@ use asn1_values::{
 use std::error::Error;
 use std::io::Read;
 
-/// The alphabets of strings of one octet a character, by the numbers of their tags. They are aligned, so that each
-/// character is its own code.
+/// Returns the alphabets of strings of one octet a character, by the numbers of their tags. They are aligned, so that
+/// each character is its own code.
 fn alphabets() -> Result<[(u64, Alphabet<'static>); 3], Box<dyn Error>> {
     Ok([
         (19, Alphabet::new(StringKind::Printable, None, true)?),
@@ -29,7 +29,7 @@ impl Shapes {
         self.all.push(Shape::Octets { count });
     }
 
-    /// Adds the shapes of a primitive element whose contents follow so many octets.
+    /// Adds the shapes of a primitive element, which has `front` octets before its contents.
     fn primitive(&mut self, front: usize, element: &Element<'_>) {
         let count = element.contents.len();
         let number = match element.class {
@@ -62,7 +62,7 @@ impl Shapes {
         }
     }
 
-    /// Adds the shapes of the elements, from the outside in. Contents that lie deeper than 64 elements are octets.
+    /// Adds the shapes of the elements, from the outermost on. Contents nested deeper than 64 elements are octets.
     fn elements(&mut self, mut octets: &[u8], depth: usize) -> Result<(), DerError> {
         while !octets.is_empty() {
             let (element, rest) = next_element(octets)?;

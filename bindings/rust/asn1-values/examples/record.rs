@@ -1,5 +1,5 @@
-//! The personnel record of X.691 A.2 in unaligned PER: its values are written, compared with the octets that the
-//! standard gives, and read back. Characters are those of ISO 646.
+//! The personnel record of X.691 A.2 in unaligned PER: its values are written, compared with the octets of the
+//! standard, and read back. Characters are those of ISO 646.
 
 use asn1_values::{
     read_field, write_fields, Alphabet, AlphabetError, Field, Integer, Shape, StringKind,
@@ -46,8 +46,8 @@ impl Name {
     }
 }
 
-/// A `VisibleString`: its permitted characters, if not all, how many it may have, and in how many bits their
-/// number less the least one is.
+/// A `VisibleString`: its permitted characters, if not all, its least and greatest length, and the width of the length
+/// field.
 struct StringType {
     permitted: Option<Vec<u32>>,
     least: usize,
@@ -77,7 +77,7 @@ struct Types {
     date: StringType,
 }
 
-/// A message, and the first bit that is not written or read yet.
+/// A message, and the index of the first bit that is not written or read yet.
 struct Message {
     octets: Vec<u8>,
     at: usize,

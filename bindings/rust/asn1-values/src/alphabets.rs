@@ -27,7 +27,7 @@ pub enum StringKind {
     Visible = 7,
 }
 
-/// Whether the octets are the contents of the string (X.690 8.23): one octet a character, two in `BMPString`.
+/// Checks that the octets are the contents of the string (X.690 8.23): one octet a character, two in `BMPString`.
 ///
 /// # Errors
 ///
@@ -59,7 +59,7 @@ pub fn check_string(kind: StringKind, octets: &[u8]) -> Result<(), StringError> 
     }
 }
 
-/// The characters of a string's octets, one octet each, two in `BMPString`.
+/// Returns the characters of a string's octets, one octet each, two in `BMPString`.
 ///
 /// # Errors
 ///
@@ -76,7 +76,7 @@ pub fn characters(kind: StringKind, octets: &[u8]) -> Result<Characters<'_>, Str
     Ok(Characters(octets.chunks_exact(size)))
 }
 
-/// The characters of a string, by their numbers. [`characters`] makes it.
+/// The characters of a string, by their numbers. [`characters`] returns it.
 ///
 /// ```
 /// use asn1_values::{characters, StringKind};
@@ -117,8 +117,8 @@ pub struct Alphabet<'s> {
 }
 
 impl<'s> Alphabet<'s> {
-    /// The alphabet of a string with a permitted set, if there is one. Where it is aligned, the width is rounded up to
-    /// a power of two.
+    /// Prepares the alphabet of a string, or of a permitted set of its characters. If it is aligned, the width is
+    /// rounded up to a power of two.
     ///
     /// # Errors
     ///
@@ -168,11 +168,11 @@ impl<'s> Alphabet<'s> {
         }
     }
 
-    /// The code of the character, which fits the width.
+    /// Returns the code of the character, which fits the width.
     ///
     /// # Errors
     ///
-    /// `AlphabetError::Character` where it has none.
+    /// `AlphabetError::Character` if it has none.
     ///
     /// ```
     /// use asn1_values::{Alphabet, AlphabetError, StringKind};
@@ -190,11 +190,11 @@ impl<'s> Alphabet<'s> {
         }
     }
 
-    /// The character of the code.
+    /// Returns the character of the code.
     ///
     /// # Errors
     ///
-    /// `AlphabetError::Code` where it is the code of none.
+    /// `AlphabetError::Code` if it is the code of no character.
     ///
     /// ```
     /// use asn1_values::{Alphabet, AlphabetError, StringKind};
@@ -211,7 +211,7 @@ impl<'s> Alphabet<'s> {
         }
     }
 
-    /// How many bits each code takes, at most 32.
+    /// Returns how many bits each code takes, at most 32.
     ///
     /// ```
     /// use asn1_values::{Alphabet, StringKind};
@@ -221,8 +221,8 @@ impl<'s> Alphabet<'s> {
     pub fn width(&self) -> usize {
         let raw = self.raw();
         let mut width = 0;
-        // SAFETY: `raw` refers to a slice that lives as long as `self`, and `width` is storage of its own. `new` has
-        // seen that it is an alphabet, so the answer is always `DONE`.
+        // SAFETY: `raw` refers to a slice that lives as long as `self`, and `width` is storage of its own. `new`
+        // checked that it is an alphabet, so the result is always `DONE`.
         unsafe { sys::asn1v_alphabet_width(&raw, &mut width) };
         width
     }

@@ -7,7 +7,7 @@ pub(crate) fn ordering(order: i32) -> Ordering {
     order.cmp(&0)
 }
 
-/// Some bits of octets, from any bit on. Two are equal where their lists of bits are, wherever they lie, and they are
+/// A view of some bits of octets, which may begin at any bit. Two views are equal if their lists of bits are. They are
 /// ordered by the first bit that differs, and otherwise by length.
 ///
 /// ```
@@ -24,7 +24,7 @@ pub struct Bits<'a> {
 }
 
 impl<'a> Bits<'a> {
-    /// So many bits of the octets, from the bit `first` on; None where the octets end before.
+    /// Returns a view of `length` bits of the octets, from bit `first` on, or `None` if the octets end before.
     ///
     /// ```
     /// use asn1_values::Bits;
@@ -43,7 +43,7 @@ impl<'a> Bits<'a> {
         })
     }
 
-    /// All bits of the octets, or as many as `usize` counts.
+    /// Returns a view of all bits of the octets, or of as many as `usize` counts.
     ///
     /// ```
     /// assert_eq!(asn1_values::Bits::of(&[0, 1]).len(), 16);
@@ -57,7 +57,7 @@ impl<'a> Bits<'a> {
         }
     }
 
-    /// How many bits.
+    /// The number of bits.
     ///
     /// ```
     /// assert_eq!(asn1_values::Bits::new(&[0xFF], 1, 5).unwrap().len(), 5);
@@ -67,7 +67,7 @@ impl<'a> Bits<'a> {
         self.length
     }
 
-    /// Whether there are none.
+    /// Returns `true` if there are no bits.
     ///
     /// ```
     /// assert!(asn1_values::Bits::of(&[]).is_empty());
@@ -77,7 +77,7 @@ impl<'a> Bits<'a> {
         self.length == 0
     }
 
-    /// The octets in which the bits lie.
+    /// Returns the octets that have the bits.
     ///
     /// ```
     /// assert_eq!(asn1_values::Bits::new(&[1, 2], 3, 4).unwrap().storage(), [1, 2]);
@@ -87,7 +87,7 @@ impl<'a> Bits<'a> {
         self.octets
     }
 
-    /// The first bit of them, counted from that of the octets.
+    /// Returns the index of the first bit in the octets.
     ///
     /// ```
     /// assert_eq!(asn1_values::Bits::new(&[1, 2], 3, 4).unwrap().first(), 3);
@@ -97,7 +97,7 @@ impl<'a> Bits<'a> {
         self.first
     }
 
-    /// So many of the bits, from the bit `from` of them on; None where they end before.
+    /// Returns a view of `length` of these bits, from bit `from` on, or `None` if they end before.
     ///
     /// ```
     /// use asn1_values::Bits;
@@ -111,7 +111,8 @@ impl<'a> Bits<'a> {
         Bits::new(self.octets, self.first + from, length)
     }
 
-    /// The number of `width` bits from bit `from` on, at most 128; None where they are not there.
+    /// Returns the number of `width` bits from bit `from` on, or `None` if these bits do not exist or are more than
+    /// 128.
     ///
     /// ```
     /// assert_eq!(asn1_values::Bits::of(&[0xA5]).number(4, 4), Some(5));
@@ -124,7 +125,7 @@ impl<'a> Bits<'a> {
         read_bits(self.octets, self.first.checked_add(from)?, width).ok()
     }
 
-    /// Octet `i` of those that lie in the bits one after another; None where they end before.
+    /// Returns the octet of the bits from `8 * i` on, or `None` if they end before.
     ///
     /// ```
     /// assert_eq!(asn1_values::Bits::new(&[0x5A, 0x5B], 4, 8).unwrap().octet(0), Some(0xA5));
@@ -134,11 +135,11 @@ impl<'a> Bits<'a> {
         Some(self.number(i.checked_mul(8)?, 8)? as u8)
     }
 
-    /// Copies the whole octets that lie in the bits one after another to the front of the room, and returns them.
+    /// Copies the whole octets of these bits to the front of the room, and returns them.
     ///
     /// # Errors
     ///
-    /// `BitsError::Room` where the room is too short.
+    /// `BitsError::Room` if the room is too small.
     ///
     /// ```
     /// use asn1_values::Bits;
@@ -165,7 +166,7 @@ impl<'a> Bits<'a> {
         }
     }
 
-    /// The whole octets that lie in the bits one after another.
+    /// Returns the whole octets of these bits.
     ///
     /// ```
     /// assert_eq!(asn1_values::Bits::new(&[0x5A, 0x5B], 4, 8).unwrap().to_octets(), [0xA5]);
@@ -228,11 +229,11 @@ impl Hash for Bits<'_> {
     }
 }
 
-/// The number of the `width` bits from bit `position` on, at most 128, the first of them its highest digit.
+/// Returns the number of the `width` bits from bit `position` on, most significant first. `width` is at most 128.
 ///
 /// # Errors
 ///
-/// `BitsError::Width` for a width over 128, otherwise `BitsError::Outside` where the octets end before.
+/// `BitsError::Width` for a width over 128, otherwise `BitsError::Outside` if the octets end before.
 ///
 /// ```
 /// assert_eq!(asn1_values::read_bits(&[0xB4, 0xA0], 3, 8), Ok(0xA5));
@@ -249,11 +250,12 @@ pub fn read_bits(octets: &[u8], position: usize, width: usize) -> Result<u128, B
     }
 }
 
-/// ORs the bits into the target from its bit `position` on. Every other bit of the target stays; into zeros it copies.
+/// ORs the bits into the target from its bit `position` on. Every other bit of the target is unchanged. If the
+/// target's bits are zeros, this copies.
 ///
 /// # Errors
 ///
-/// `BitsError::Outside` where the target ends before; then nothing has changed.
+/// `BitsError::Outside` if the target ends before; then nothing has changed.
 ///
 /// ```
 /// use asn1_values::{or_bits, Bits};
@@ -280,13 +282,13 @@ pub fn or_bits(target: &mut [u8], position: usize, source: Bits<'_>) -> Result<(
     }
 }
 
-/// ORs the `width` lowest binary digits of the number, at most 128, into the target from bit `position` on. Every other
-/// bit of the target stays.
+/// ORs the `width` lowest binary digits of the number, at most 128, into the target from bit `position` on. Every
+/// other bit of the target is unchanged.
 ///
 /// # Errors
 ///
-/// `BitsError::Width` for a width over 128, `BitsError::Overflow` for a number that is not below 2 to its power, otherwise
-/// `BitsError::Outside` where the target ends before; then nothing has changed.
+/// `BitsError::Width` for a width over 128, `BitsError::Overflow` for a number that does not fit the width, otherwise
+/// `BitsError::Outside` if the target ends before; then nothing has changed.
 ///
 /// ```
 /// let mut message = [0x80, 0];

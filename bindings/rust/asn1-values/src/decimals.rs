@@ -1,7 +1,7 @@
 use crate::error::IntegerError;
 use crate::sys;
 
-/// How many octets of room are always enough for the decimal text of as many octets.
+/// Returns how much room is always enough for the decimal text of a number of `octets` octets.
 ///
 /// ```
 /// assert_eq!(asn1_values::decimal_room(16), 42);
@@ -13,14 +13,14 @@ pub const fn decimal_room(octets: usize) -> usize {
         .saturating_add(2 + 2 * (octets % 2))
 }
 
-/// The decimal text of the number that two's complement octets encode, at the front of the room: [`decimal_room`] says
-/// how much is always enough. The octets need not be the shortest. The time grows as the square of their number past
-/// 128 bits: bound the length of what others send.
+/// Writes the decimal text of the number that two's complement octets encode to the front of the room, and returns it.
+/// [`decimal_room`] says how much room is always enough. The octets need not be the shortest. The time is quadratic in
+/// their number past 128 bits, so limit the length of untrusted input.
 ///
 /// # Errors
 ///
-/// `IntegerError::Empty` for no octets, `IntegerError::Room` where the room is too short. Where the number fits 128
-/// bits neither with a sign nor without, that is where it is shorter than `decimal_room` of the shortest octets.
+/// `IntegerError::Empty` for no octets, `IntegerError::Room` if the room is too small: less than the text or, for a
+/// number that exceeds 128 bits, less than `decimal_room` of its shortest octets.
 ///
 /// ```
 /// assert_eq!(asn1_values::write_decimal(&[0xFF, 0x7F], &mut [0; 40]), Ok("-129"));
@@ -44,7 +44,7 @@ pub fn write_decimal<'a>(octets: &[u8], room: &'a mut [u8]) -> Result<&'a str, I
     }
 }
 
-/// The decimal text of the number that two's complement octets encode. The time grows as that of [`write_decimal`].
+/// Returns the decimal text of the number that two's complement octets encode. The time is that of [`write_decimal`].
 ///
 /// # Errors
 ///
@@ -61,15 +61,14 @@ pub fn decimal(octets: &[u8]) -> Result<alloc::string::String, IntegerError> {
     write_decimal(octets, &mut room).map(alloc::string::String::from)
 }
 
-/// The shortest two's complement octets of the number of a decimal text, as [`write_decimal`] writes it, at the front
-/// of the room: half as many octets as the text has, and one more, are always enough. The time grows as the square of
-/// the text's length past 128 bits: bound the length of what others send.
+/// Writes the shortest two's complement octets of the number of a decimal text, in the form that [`write_decimal`]
+/// writes, to the front of the room, and returns them. Half as many octets as the text has, and one more, are always
+/// enough. The time is quadratic in the text's length past 128 bits, so limit the length of untrusted input.
 ///
 /// # Errors
 ///
-/// `IntegerError::Decimal` for any other text: so for a plus sign, and a zero before other digits. `IntegerError::Room`
-/// where the room is too short. Where the number fits 128 bits neither with a sign nor without, that is where it has
-/// fewer octets than are always enough.
+/// `IntegerError::Decimal` for any other text, such as one with a plus sign or a leading zero. `IntegerError::Room` if
+/// the room is too small: less than the octets or, for a number that exceeds 128 bits, less than is always enough.
 ///
 /// ```
 /// use asn1_values::{octets_of_decimal, IntegerError};

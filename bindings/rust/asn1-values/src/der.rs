@@ -41,7 +41,7 @@ pub struct Element<'a> {
 }
 
 impl Element<'_> {
-    /// Whether its tag is the universal one of the number.
+    /// Returns `true` if its tag is universal and has the number.
     ///
     /// ```
     /// assert!(asn1_values::next_element(&[2, 1, 0]).unwrap().0.is_universal(2));
@@ -64,13 +64,13 @@ fn error_of(code: u32) -> DerError {
     }
 }
 
-/// Returns the element that the octets begin with, and the octets after it. The identifier octets and the length are
-/// in the minimal number of octets, and the contents octets are not examined (X.690 8.1, 10.1).
+/// Returns the element that the octets begin with, and the octets after it. The identifier octets and the length must
+/// be minimal; the contents octets are not examined (X.690 8.1, 10.1).
 ///
 /// # Errors
 ///
-/// The first fault; for no octets `DerError::Short`. `DerError::TagLarge` if there is an element whose tag has a number
-/// of more than 64 bits.
+/// The first fault; for no octets `DerError::Short`. `DerError::TagLarge` for an element whose tag has a number of
+/// more than 64 bits.
 ///
 /// ```
 /// use asn1_values::{next_element, DerError};
@@ -99,7 +99,7 @@ pub fn next_element(octets: &[u8]) -> Result<(Element<'_>, &[u8]), DerError> {
     Ok((element, &octets[found.end..]))
 }
 
-/// The truth value that the contents of a BOOLEAN are (X.690 8.2, 11.1).
+/// Decodes the contents of a BOOLEAN (X.690 8.2, 11.1).
 ///
 /// # Errors
 ///
@@ -119,7 +119,7 @@ pub fn der_boolean(contents: &[u8]) -> Result<bool, DerError> {
     }
 }
 
-/// The bits of the contents of a BIT STRING (X.690 8.6, 11.2.1).
+/// Decodes the contents of a BIT STRING (X.690 8.6, 11.2.1).
 ///
 /// # Errors
 ///
@@ -139,7 +139,7 @@ pub fn der_bits(contents: &[u8]) -> Result<Bits<'_>, DerError> {
     }
 }
 
-/// A time in UTC. There is such a day in the year.
+/// A time in UTC. The day exists in its month and year.
 ///
 /// ```
 /// let time: asn1_values::Time = asn1_values::der_utc_time(b"261126042000Z").unwrap();
@@ -174,7 +174,7 @@ impl Time {
     }
 }
 
-/// The time that the contents of a UTCTime are, in the years 1950 to 2049 (X.690 11.8, RFC 5280 4.1.2.5.1).
+/// Decodes the contents of a UTCTime, in the years 1950 to 2049 (X.690 11.8, RFC 5280 4.1.2.5.1).
 ///
 /// # Errors
 ///
@@ -194,7 +194,7 @@ pub fn der_utc_time(contents: &[u8]) -> Result<Time, DerError> {
     }
 }
 
-/// The time that the contents of a GeneralizedTime without a fraction are (X.690 11.7, RFC 5280 4.1.2.5.2).
+/// Decodes the contents of a GeneralizedTime without a fraction of a second (X.690 11.7, RFC 5280 4.1.2.5.2).
 ///
 /// # Errors
 ///

@@ -1,4 +1,4 @@
-//! Why a call gave no answer.
+//! Errors of calls.
 
 mod fields;
 
@@ -24,7 +24,7 @@ pub enum BitsError {
     Room,
 }
 
-/// Why octets were no number, or did not hold one.
+/// An error of numbers and their octets.
 ///
 /// ```
 /// assert_eq!(asn1_values::IntegerError::Empty.to_string(), "no octets");
@@ -42,7 +42,7 @@ pub enum IntegerError {
     Room,
 }
 
-/// Why there is no identifier.
+/// An error of identifiers.
 ///
 /// ```
 /// assert_eq!(asn1_values::IdentifierError::Arcs.to_string(), "not the arcs of an identifier");
@@ -64,7 +64,7 @@ pub enum IdentifierError {
     Room,
 }
 
-/// Why octets are not the contents of a string, or a text is none.
+/// An error of strings.
 ///
 /// ```
 /// assert_eq!(asn1_values::StringError::Odd.to_string(), "an odd number of octets");
@@ -83,7 +83,7 @@ pub enum StringError {
         /// The surrogate.
         character: u32,
     },
-    /// The octets, or the room for them, would pass `usize::MAX`.
+    /// The number of octets would exceed `usize::MAX`.
     TooMany,
     /// The room is too short.
     Room,
@@ -96,7 +96,7 @@ pub enum StringError {
     },
 }
 
-/// Why there is no code or no character.
+/// An error of alphabets.
 ///
 /// ```
 /// assert_eq!(asn1_values::AlphabetError::Code(9).to_string(), "code 9 is no character");

@@ -14,7 +14,7 @@ use crate::identifiers::Identifier;
 use crate::integers::Integer;
 use crate::sys;
 
-/// A field that is written, or that was read. What was read is borrowed from where it lies.
+/// A field to write, or that was read. A field that was read borrows from the octets.
 ///
 /// ```
 /// use asn1_values::{read_field, Field, Shape};
@@ -27,7 +27,7 @@ pub enum Field<'a, 's> {
     Number {
         /// The number.
         value: u128,
-        /// How many bits.
+        /// The number of bits.
         width: usize,
     },
     /// Octets, from any bit on.
@@ -59,22 +59,22 @@ pub enum Field<'a, 's> {
 pub enum Shape<'s> {
     /// A number of `width` bits.
     Number {
-        /// How many bits.
+        /// The number of bits.
         width: usize,
     },
-    /// So many octets.
+    /// `count` octets.
     Octets {
-        /// How many octets.
+        /// The number of octets.
         count: usize,
     },
-    /// So many bits.
+    /// `count` bits.
     Bits {
-        /// How many bits.
+        /// The number of bits.
         length: usize,
     },
-    /// An integer whose shortest octets are so many.
+    /// An integer whose shortest octets are `octets`.
     Integer {
-        /// How many octets.
+        /// The number of octets.
         octets: usize,
     },
     /// An integer after an octet that counts its octets.
@@ -84,15 +84,15 @@ pub enum Shape<'s> {
         /// The alphabet.
         alphabet: Alphabet<'s>,
     },
-    /// An identifier whose contents have so many octets.
+    /// An identifier whose contents have `octets` octets.
     Identifier {
-        /// How many octets.
+        /// The number of octets.
         octets: usize,
     },
 }
 
 impl<'s> Shape<'s> {
-    /// In C's numbers, with the index of its alphabet.
+    /// Returns the shape for C, with the index of its alphabet.
     fn raw(&self, place: usize) -> sys::Shape {
         let (kind, count) = match *self {
             Shape::Number { width } => (sys::NUMBER, width),
@@ -115,7 +115,7 @@ impl<'s> Shape<'s> {
 }
 
 impl<'s> Field<'_, 's> {
-    /// The shape of the field.
+    /// Returns the shape of the field.
     ///
     /// ```
     /// use asn1_values::{Bits, Field, Shape};

@@ -14,7 +14,7 @@ fn refusal(code: u32) -> IdentifierError {
     }
 }
 
-/// An object identifier by its contents (X.690 8.19), whose arcs all fit 32 bits. They may lie from any bit on.
+/// An object identifier by its contents (X.690 8.19), which may begin at any bit. Its arcs all fit 32 bits.
 ///
 /// ```
 /// let identifier = asn1_values::Identifier::new(&[0x2A, 0x86, 0x48]).unwrap();
@@ -24,7 +24,7 @@ fn refusal(code: u32) -> IdentifierError {
 pub struct Identifier<'a>(Bits<'a>);
 
 impl<'a> Identifier<'a> {
-    /// The identifier whose contents the octets are.
+    /// Returns the identifier with these contents.
     ///
     /// # Errors
     ///
@@ -40,12 +40,12 @@ impl<'a> Identifier<'a> {
         Ok(Identifier(Bits::of(contents)))
     }
 
-    /// What the library has read.
+    /// Returns an identifier that the library has read.
     pub(crate) fn read(bits: Bits<'a>) -> Identifier<'a> {
         Identifier(bits)
     }
 
-    /// The contents.
+    /// Returns the contents.
     ///
     /// ```
     /// assert_eq!(asn1_values::Identifier::new(&[0x55]).unwrap().contents().len(), 8);
@@ -81,7 +81,7 @@ impl fmt::Display for Identifier<'_> {
     }
 }
 
-/// The arcs of an identifier. [`Identifier::arcs`] makes it.
+/// The arcs of an identifier, by [`Identifier::arcs`].
 ///
 /// ```
 /// assert_eq!(asn1_values::Identifier::new(&[0x55, 0x04]).unwrap().arcs().last(), Some(4));
@@ -121,7 +121,7 @@ impl Iterator for Arcs<'_> {
 
 impl core::iter::FusedIterator for Arcs<'_> {}
 
-/// Whether the octets are the contents of an identifier (X.690 8.19) whose arcs all fit 32 bits.
+/// Checks that the octets are the contents of an identifier (X.690 8.19) whose arcs all fit 32 bits.
 ///
 /// # Errors
 ///
@@ -138,11 +138,11 @@ pub fn check_contents(octets: &[u8]) -> Result<(), IdentifierError> {
     }
 }
 
-/// Whether the arcs are those of an identifier (X.660).
+/// Checks that the arcs are those of an identifier (X.660).
 ///
 /// # Errors
 ///
-/// `IdentifierError::Arcs` where they are not.
+/// `IdentifierError::Arcs` if they are not.
 ///
 /// ```
 /// assert!(asn1_values::check_arcs(&[2, 999]).is_ok());
@@ -156,12 +156,13 @@ pub fn check_arcs(arcs: &[u32]) -> Result<(), IdentifierError> {
     }
 }
 
-/// The contents of the arcs, at the front of the room: five octets for each arc are always enough.
+/// Writes the contents of the arcs to the front of the room, and returns them. Five octets for each arc are always
+/// enough.
 ///
 /// # Errors
 ///
-/// `IdentifierError::Arcs` where they are no identifier's, `IdentifierError::ArcCount` for one arc, otherwise
-/// `IdentifierError::Room` where the room is too short.
+/// `IdentifierError::Arcs` if they are not those of an identifier, `IdentifierError::ArcCount` for one arc, otherwise
+/// `IdentifierError::Room` if the room is too small.
 ///
 /// ```
 /// let mut room = [0; 15];
@@ -185,12 +186,12 @@ pub fn write_contents<'a>(arcs: &[u32], room: &'a mut [u8]) -> Result<&'a [u8], 
     }
 }
 
-/// The arcs of which the octets are the contents, at the front of the room: one arc more than there are octets is
-/// always enough.
+/// Writes the arcs that contents octets encode to the front of the room, and returns them. One arc more than there are
+/// octets is always enough.
 ///
 /// # Errors
 ///
-/// Those of [`check_contents`], otherwise `IdentifierError::Room` where the room is too short.
+/// Those of [`check_contents`], otherwise `IdentifierError::Room` if the room is too small.
 ///
 /// ```
 /// let mut room = [0; 4];
@@ -240,12 +241,13 @@ fn arcs_into(text: &str, room: &mut [u32], count: &mut usize) -> u32 {
     }
 }
 
-/// The dotted text of the arcs, at the front of the room: eleven octets for each arc are always enough.
+/// Writes the dotted text of the arcs to the front of the room, and returns it. Eleven octets for each arc are always
+/// enough.
 ///
 /// # Errors
 ///
-/// `IdentifierError::Arcs` where they are no identifier's, otherwise `IdentifierError::Room` where the room is too
-/// short.
+/// `IdentifierError::Arcs` if they are not those of an identifier, otherwise `IdentifierError::Room` if the room is
+/// too small.
 ///
 /// ```
 /// let mut room = [0; 22];
@@ -259,13 +261,13 @@ pub fn write_dotted<'a>(arcs: &[u32], room: &'a mut [u8]) -> Result<&'a str, Ide
     }
 }
 
-/// The arcs of a dotted text, at the front of the room: half as many as the text has octets, and one more, are always
-/// enough.
+/// Writes the arcs of a dotted text to the front of the room, and returns them. Half as many as the text has octets,
+/// and one more, are always enough.
 ///
 /// # Errors
 ///
-/// `IdentifierError::Text` where it is the dotted text of no identifier whose arcs fit 32 bits, otherwise
-/// `IdentifierError::Room` where the room is too short.
+/// `IdentifierError::Text` for any other text, and for an arc that exceeds 32 bits; otherwise `IdentifierError::Room`
+/// if the room is too small.
 ///
 /// ```
 /// let mut room = [0; 2];
@@ -282,11 +284,11 @@ pub fn write_arcs_of_dotted<'a>(
     }
 }
 
-/// The dotted text of the arcs.
+/// Returns the dotted text of the arcs.
 ///
 /// # Errors
 ///
-/// `IdentifierError::Arcs` where they are no identifier's.
+/// `IdentifierError::Arcs` if they are not those of an identifier.
 ///
 /// ```
 /// assert_eq!(asn1_values::dotted(&[1, 2, 840, 113549]).as_deref(), Ok("1.2.840.113549"));
@@ -302,11 +304,11 @@ pub fn dotted(arcs: &[u32]) -> Result<alloc::string::String, IdentifierError> {
     }
 }
 
-/// The arcs of a dotted text.
+/// Returns the arcs of a dotted text.
 ///
 /// # Errors
 ///
-/// `IdentifierError::Text` where it is the dotted text of no identifier whose arcs fit 32 bits.
+/// `IdentifierError::Text` for any other text, and for an arc that exceeds 32 bits.
 ///
 /// ```
 /// assert_eq!(asn1_values::arcs_of_dotted("2.5.4"), Ok(vec![2, 5, 4]));
@@ -324,7 +326,7 @@ pub fn arcs_of_dotted(text: &str) -> Result<alloc::vec::Vec<u32>, IdentifierErro
     }
 }
 
-/// The arcs of which the octets are the contents.
+/// Returns the arcs that contents octets encode.
 ///
 /// # Errors
 ///
@@ -341,11 +343,11 @@ pub fn arcs(octets: &[u8]) -> Result<alloc::vec::Vec<u32>, IdentifierError> {
     Ok(room)
 }
 
-/// The contents of the arcs.
+/// Returns the contents of the arcs.
 ///
 /// # Errors
 ///
-/// `IdentifierError::Arcs` where they are no identifier's, `IdentifierError::ArcCount` for one arc.
+/// `IdentifierError::Arcs` if they are not those of an identifier, `IdentifierError::ArcCount` for one arc.
 ///
 /// ```
 /// assert_eq!(asn1_values::contents(&[2, 100, 3]), Ok(vec![0x81, 0x34, 0x03]));

@@ -3,7 +3,7 @@ use crate::error::{BitsError, IntegerError};
 use crate::sys;
 use core::cmp::Ordering;
 
-/// A whole number of any size: one of 128 bits by its value, otherwise the shortest octets that it has somewhere.
+/// A whole number of any size: by its value if it fits 128 bits, otherwise by its shortest octets, which are borrowed.
 ///
 /// ```
 /// use asn1_values::Integer;
@@ -28,7 +28,7 @@ impl From<i128> for Integer<'_> {
 }
 
 impl<'a> Integer<'a> {
-    /// The number that two's complement octets encode (X.690 8.3), which need not be the shortest.
+    /// Returns the number that two's complement octets encode (X.690 8.3), which need not be the shortest.
     ///
     /// # Errors
     ///
@@ -53,7 +53,7 @@ impl<'a> Integer<'a> {
         Ok(Integer::from(i128::from_be_bytes(word)))
     }
 
-    /// The number, if it fits 128 bits.
+    /// Returns the number, if it fits 128 bits.
     ///
     /// ```
     /// assert_eq!(asn1_values::Integer::from(7).value(), Some(7));
@@ -66,7 +66,7 @@ impl<'a> Integer<'a> {
         }
     }
 
-    /// How many octets are its shortest.
+    /// Returns the number of its shortest octets.
     ///
     /// ```
     /// assert_eq!(asn1_values::Integer::from(128).octet_count(), 2);
@@ -83,7 +83,7 @@ impl<'a> Integer<'a> {
     ///
     /// # Errors
     ///
-    /// `IntegerError::Room` where the room is too short.
+    /// `IntegerError::Room` if the room is too small.
     ///
     /// ```
     /// let mut room = [0; 4];
@@ -126,8 +126,7 @@ impl PartialOrd for Integer<'_> {
     }
 }
 
-/// The shortest two's complement octets of the number (X.690 8.3), at the front of the room, which eight octets are
-/// always enough for.
+/// Writes the shortest two's complement octets of the number (X.690 8.3) to the front of the room, and returns them.
 ///
 /// ```
 /// assert_eq!(asn1_values::integer_octets(128, &mut [0; 8]), [0x00, 0x80]);
@@ -140,11 +139,11 @@ pub fn integer_octets(number: i64, room: &mut [u8; 8]) -> &[u8] {
     &room[..count]
 }
 
-/// The number that two's complement octets encode, which need not be the shortest.
+/// Returns the number that two's complement octets encode, which need not be the shortest.
 ///
 /// # Errors
 ///
-/// `IntegerError::Empty` for no octets, `IntegerError::Overflow` where it does not fit 64 bits.
+/// `IntegerError::Empty` for no octets, `IntegerError::Overflow` if it does not fit 64 bits.
 ///
 /// ```
 /// assert_eq!(asn1_values::integer_from_octets(&[0xFF, 0x7F]), Ok(-129));
@@ -163,7 +162,7 @@ pub fn integer_from_octets(octets: &[u8]) -> Result<i64, IntegerError> {
 ///
 /// # Errors
 ///
-/// `IntegerError::Empty` where either has no octets.
+/// `IntegerError::Empty` if either has no octets.
 ///
 /// ```
 /// use core::cmp::Ordering;
@@ -180,7 +179,7 @@ pub fn compare_integers(a: &[u8], b: &[u8]) -> Result<Ordering, IntegerError> {
     }
 }
 
-/// Whether the octets are the shortest of a number (X.690 8.3.2): not for no octets.
+/// Returns `true` if the octets are the shortest of a number (X.690 8.3.2). No octets are not.
 ///
 /// ```
 /// assert!(!asn1_values::is_shortest(&[0xFF, 0x80]));
@@ -191,7 +190,7 @@ pub fn is_shortest(octets: &[u8]) -> bool {
     unsafe { sys::asn1v_integer_is_shortest(octets.as_ptr(), octets.len()) }
 }
 
-/// The shortest octets of the same number: the end of the list. None for none.
+/// Returns the shortest octets of the same number, which are the last ones. Of no octets these are none.
 ///
 /// ```
 /// assert_eq!(asn1_values::shortest(&[0, 0, 0x7F]), [0x7F]);

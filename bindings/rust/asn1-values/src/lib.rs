@@ -1,10 +1,10 @@
 //! The proved value layer of ASN.1 as a Rust crate: safe functions over the static library that `rt lib` writes.
 //!
-//! What the library's functions return is proved; what is written here hands slices to them, walks over fields and
-//! turns numbers into types, and is tested. Positions and widths are in bits, and the first bit of an octet is its most
-//! significant one.
+//! What the library's functions return is proved. This crate passes slices to them, walks over fields and makes types
+//! of numbers; that is tested. Positions and widths are in bits; the first bit of an octet is its most significant
+//! one.
 //!
-//! Without the feature `std` it is `no_std`; the feature `alloc` adds what gives vectors.
+//! Without the feature `std` the crate is `no_std`. The feature `alloc` adds the functions that return vectors.
 //!
 //! ```
 //! use asn1_values::{read_field, write_fields, Field, Integer};
@@ -65,3 +65,8 @@ pub use version::version;
 pub use wide_integers::{
     i128_from_octets, i128_octets, u128_from_octets, u128_octets, u64_from_octets, u64_octets,
 };
+
+/// The example of the crate's page.
+#[cfg(doctest)]
+#[doc = include_str!("../README.md")]
+struct Readme;

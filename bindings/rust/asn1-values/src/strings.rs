@@ -2,7 +2,7 @@ use crate::alphabets::StringKind;
 use crate::error::StringError;
 use crate::sys;
 
-/// How many characters the octets of a string are, whichever they are.
+/// Returns the number of characters of a string's octets, valid or not.
 ///
 /// # Errors
 ///
@@ -22,7 +22,7 @@ pub fn count_characters(kind: StringKind, octets: &[u8]) -> Result<usize, String
     }
 }
 
-/// What a call wrote, or why it wrote nothing.
+/// Returns what a call wrote, or its error.
 struct Answer {
     code: u32,
     count: usize,
@@ -92,14 +92,14 @@ fn from_utf8(kind: StringKind, text: &str, room: &mut [u8]) -> Answer {
     }
 }
 
-/// The characters of a string's octets as a text, at the front of the room: three octets for each character are always
-/// enough.
+/// Writes the characters of a string's octets as text to the front of the room, and returns it. Three octets for each
+/// character are always enough.
 ///
 /// # Errors
 ///
 /// `StringError::NoUnicode` for the three strings whose characters are not those of Unicode, `StringError::Odd`, the
 /// first `StringError::Character` or `StringError::Surrogate`, `StringError::TooMany`, otherwise `StringError::Room`
-/// where the room is too short.
+/// if the room is too small.
 ///
 /// ```
 /// use asn1_values::{write_string_to_utf8, StringKind};
@@ -118,14 +118,14 @@ pub fn write_string_to_utf8<'a>(
     core::str::from_utf8(&room[..answer.count]).map_err(|_| StringError::NoUnicode)
 }
 
-/// The octets of the string that has the characters of a text, at the front of the room: as many as the text has are
-/// always enough, and for a `BMPString` twice as many.
+/// Writes the octets of a string with the characters of a text to the front of the room, and returns them. As many as
+/// the text has are always enough, and for a `BMPString` twice as many.
 ///
 /// # Errors
 ///
 /// `StringError::NoUnicode` for the three strings whose characters are not those of Unicode, the first
-/// `StringError::Character` that is not in the set, `StringError::TooMany`, otherwise `StringError::Room` where the
-/// room is too short.
+/// `StringError::Character` that is not in the set, `StringError::TooMany`, otherwise `StringError::Room` if the room
+/// is too small.
 ///
 /// ```
 /// use asn1_values::{write_string_from_utf8, StringError, StringKind};
@@ -146,11 +146,11 @@ pub fn write_string_from_utf8<'a>(
     Ok(&room[..answer.count])
 }
 
-/// The characters of a string's octets as a text.
+/// Returns the characters of a string's octets as a text.
 ///
 /// # Errors
 ///
-/// Those of [`write_string_to_utf8`] but for `StringError::Room`.
+/// Those of [`write_string_to_utf8`], except `StringError::Room`.
 ///
 /// ```
 /// use asn1_values::{string_to_utf8, StringError, StringKind};
@@ -172,11 +172,11 @@ pub fn string_to_utf8(
     write_string_to_utf8(kind, octets, &mut room).map(alloc::string::String::from)
 }
 
-/// The octets of the string that has the characters of a text.
+/// Returns the octets of a string with the characters of a text.
 ///
 /// # Errors
 ///
-/// Those of [`write_string_from_utf8`] but for `StringError::Room`.
+/// Those of [`write_string_from_utf8`], except `StringError::Room`.
 ///
 /// ```
 /// use asn1_values::{string_from_utf8, StringKind};

@@ -1,4 +1,4 @@
-//! The functions of `asn1_values.h` and the codes of `asn1_codes.h`, as they are there.
+//! The functions of `asn1_values.h` and the codes of `asn1_codes.h`.
 
 #[repr(C)]
 #[derive(Clone, Copy)]

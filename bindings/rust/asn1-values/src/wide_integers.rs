@@ -8,8 +8,7 @@ fn wrong(code: u32) -> IntegerError {
     }
 }
 
-/// The shortest two's complement octets of the number (X.690 8.3), at the front of the room, which nine octets are
-/// always enough for.
+/// Writes the shortest two's complement octets of the number (X.690 8.3) to the front of the room, and returns them.
 ///
 /// ```
 /// assert_eq!(asn1_values::u64_octets(128, &mut [0; 9]), [0x00, 0x80]);
@@ -22,11 +21,11 @@ pub fn u64_octets(number: u64, room: &mut [u8; 9]) -> &[u8] {
     &room[..count]
 }
 
-/// The number that two's complement octets encode, which need not be the shortest.
+/// Returns the number that two's complement octets encode, which need not be the shortest.
 ///
 /// # Errors
 ///
-/// `IntegerError::Empty` for no octets, `IntegerError::Overflow` where it does not fit.
+/// `IntegerError::Empty` for no octets, `IntegerError::Overflow` if it does not fit.
 ///
 /// ```
 /// use asn1_values::IntegerError;
@@ -42,7 +41,7 @@ pub fn u64_from_octets(octets: &[u8]) -> Result<u64, IntegerError> {
     }
 }
 
-/// As [`u64_octets`], of 128 bits with a sign, which sixteen octets are always enough for.
+/// Writes a signed number of 128 bits as [`u64_octets`] does.
 ///
 /// ```
 /// assert_eq!(asn1_values::i128_octets(-129, &mut [0; 16]), [0xFF, 0x7F]);
@@ -57,7 +56,7 @@ pub fn i128_octets(number: i128, room: &mut [u8; 16]) -> &[u8] {
     &room[..count]
 }
 
-/// As [`u64_from_octets`], of 128 bits with a sign.
+/// Reads a signed number of 128 bits as [`u64_from_octets`] does.
 ///
 /// # Errors
 ///
@@ -75,7 +74,7 @@ pub fn i128_from_octets(octets: &[u8]) -> Result<i128, IntegerError> {
     }
 }
 
-/// As [`u64_octets`], of 128 bits, which seventeen octets are always enough for.
+/// Writes an unsigned number of 128 bits as [`u64_octets`] does.
 ///
 /// ```
 /// assert_eq!(asn1_values::u128_octets(u128::MAX, &mut [0; 17]).len(), 17);
@@ -90,7 +89,7 @@ pub fn u128_octets(number: u128, room: &mut [u8; 17]) -> &[u8] {
     &room[..count]
 }
 
-/// As [`u64_from_octets`], of 128 bits.
+/// Reads an unsigned number of 128 bits as [`u64_from_octets`] does.
 ///
 /// # Errors
 ///

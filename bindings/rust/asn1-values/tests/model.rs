@@ -1,9 +1,9 @@
-//! Ten thousand random messages of all seven kinds, written and read here and by a plain model of fields: lists of bits,
-//! one bit each, put together and taken apart without the library.
+//! Ten thousand random messages of all seven kinds, written and read by this crate and by a simple model of fields as
+//! lists of bits.
 
 use asn1_values::*;
 
-/// Numbers that look random, the same in each run (xorshift).
+/// Pseudorandom numbers, the same in each run (xorshift).
 struct Dice(u64);
 
 impl Dice {
@@ -43,12 +43,12 @@ fn octets_of(list: &[bool]) -> Vec<u8> {
         .collect()
 }
 
-/// Octets are the shortest where their first nine bits are not all alike.
+/// Returns whether octets are the shortest: their first nine bits are not all equal.
 fn are_shortest(list: &[bool]) -> bool {
     list.len() == 8 || list.len() > 8 && list[..9].iter().any(|bit| *bit != list[0])
 }
 
-/// The arcs of contents, or whether they are contents of larger arcs.
+/// Returns the arcs of contents, or whether they are contents of larger arcs.
 fn model_arcs(octets: &[u8]) -> Result<Vec<u32>, bool> {
     let mut numbers = vec![];
     let mut one: Option<u128> = None;
@@ -139,7 +139,7 @@ fn alphabets() -> (Alphabet<'static>, Alphabet<'static>) {
     (letters, digits)
 }
 
-/// A digit of `NumericString` by its place: the space comes first.
+/// Returns a character of `NumericString` by its index: the space is the first.
 fn digit(place: usize) -> u32 {
     if place == 0 {
         32
@@ -188,13 +188,14 @@ impl Part {
                 list.extend(bits_of(octets));
                 list
             }
-            // Five letters have three bits, by place, since 122 does not fit them; eleven digits have four.
+            // Codes of five letters have three bits, by index, since 122 does not fit three bits; codes of eleven
+            // characters have four.
             Part::Letter(place) => digits(*place as u128, 3),
             Part::Digit(place) => digits(*place as u128, 4),
         }
     }
 
-    /// What the model reads of the same shape: how many bits it takes, or why not.
+    /// Returns how many bits the model reads for the same shape, or its error.
     fn read(&self, i: usize, left: &[bool]) -> Result<usize, ReadError> {
         let short = |need: usize| ReadError::Short {
             field: i,
@@ -231,7 +232,7 @@ impl Part {
     }
 }
 
-/// What a field that was read says, against the bits of its place.
+/// Compares a field that was read with its bits.
 fn same(field: &Field<'_, '_>, cut: &[bool]) {
     let shortest = |number: &Integer<'_>| {
         let mut room = [0; 127];
@@ -270,7 +271,7 @@ fn same(field: &Field<'_, '_>, cut: &[bool]) {
     }
 }
 
-/// Returns whether the list replaced what was there and the rest is unchanged, or all of it is.
+/// Returns whether the list was written and the rest is unchanged, or everything is unchanged.
 fn written_as_the_model(dice: &mut Dice, parts: &[Part], position: usize, room: usize) -> bool {
     let fields: Vec<Field<'_, '_>> = parts.iter().map(Part::field).collect();
     let list: List = parts.iter().flat_map(Part::list).collect();
@@ -292,7 +293,7 @@ fn written_as_the_model(dice: &mut Dice, parts: &[Part], position: usize, room: 
     true
 }
 
-/// What is read anywhere is what the model cuts out, or the first field that is not there.
+/// Reads at any bit what the model reads, or the first invalid field.
 fn read_as_the_model(message: &[u8], parts: &[Part], position: usize) -> bool {
     let all = bits_of(message);
     let fields: Vec<Field<'_, '_>> = parts.iter().map(Part::field).collect();

@@ -28,7 +28,7 @@ pub value_fits : (set : List ℕ) (w c : ℕ) → is_indexed w set ≡ false →
     has_character set c ≡ true → c < 2 ^ w
 value_fits set w c low has = let most = not_above set c has in grind (arith, nat_tests)
 
--- a code fits the width, where each place does and the alphabet goes by place wherever a character
+-- a code fits the width, if each index does and the alphabet uses indices wherever a character
 -- does not
 pub code_fits : (alphabet : Alphabet) (c k : ℕ) →
     length alphabet.characters ≤ 2 ^ alphabet.width →

@@ -59,7 +59,7 @@ worth-is_odd n = elim (is_odd n) as (λ b. is_odd n ≡ b → cond b 1 0 ≡ n %
   | false ↦ λ e. (let ne = eqb-false (n % 2) 1 e in omega arith)
 ] refl
 
--- the number of so many digits is the remainder
+-- the number of the lowest `width` digits is the remainder
 pub number-digits : (n width : ℕ) → number (digits n width) ≡ n % 2 ^ width
 unfolding digits number
 number-digits n zero = omega arith

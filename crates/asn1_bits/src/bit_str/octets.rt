@@ -49,7 +49,7 @@ impl<'a> BitStr<'a> {
         self.push_moved_octets_to(octets)
     }
 
-    /// The path of `push_octets_to` for views off the octet boundary: the octets are ORed into
+    /// Does what `push_octets_to` does for views off the octet boundary: the octets are ORed into
     /// zeros.
     fn push_moved_octets_to(&self, octets: &mut Vec<u8>) -> Result<(), AllocError>
         requires { (view_of self.now).len % 8 ≡ 0 }

@@ -8,7 +8,7 @@ use super::BitStr;
 use std::cmp::Ordering;
 
 impl BitStr<'_> {
-    /// The path of `cmp` for views whose first words decide nothing. Not inlined, and the views are
+    /// Does what `cmp` does for views whose first words decide nothing. Not inlined. The views are
     /// passed by value, so that they are stored for this call alone.
     #[inline(never)]
     pub(super) fn cmp_words(self, other: BitStr<'_>) -> Ordering

@@ -58,7 +58,7 @@ pub(super) fn or_word(dst: &mut [u8], position: usize, word: u64, width: usize)
         return;
     }
     // All below uses this one shift, so that the compiler joins it with a shift of the read before.
-    // The remainder changes nothing; it tells the compiler that the shift is below 64.
+    // The remainder changes nothing; it shows the compiler that the shift is below 64.
     let top = word << ((64 - width) % 64);
     if position / 8 + 8 > dst.len() {
         or_near_end(dst, position, top, width);
@@ -73,7 +73,7 @@ pub(super) fn or_word(dst: &mut [u8], position: usize, word: u64, width: usize)
     }
 }
 
-/// The path of `or_word` for the last octets of a slice: ORs the highest `width` digits of a word.
+/// Does what `or_word` does for the last octets of a slice: ORs the top `width` digits of a word.
 /// Not inlined.
 #[cold]
 #[inline(never)]
@@ -174,7 +174,7 @@ pub(super) fn or_front(dst: &mut [u8], octet: usize, word: u64, width: usize)
     }
 }
 
-/// The path of `or_front` for at least one digit. `moved` has them as its first, and no others.
+/// Does what `or_front` does for at least one digit. `moved` has them as its first, and no others.
 #[inline(always)]
 fn or_top(dst: &mut [u8], octet: usize, word: u64, width: usize, moved: u64)
     requires some { 0 < width }
@@ -201,7 +201,7 @@ fn replaced(old: u64, word: u64, shift: usize, width: usize) -> u64
 }
 
 /// Writes the lowest `width` digits of the word over the bits from bit `position` on: some digits,
-/// in eight octets that are there.
+/// in eight octets that exist.
 #[inline(always)]
 fn set_within_eight(dst: &mut [u8], position: usize, word: u64, width: usize)
     requires some { 0 < width }
@@ -227,7 +227,7 @@ fn set_short(dst: &mut [u8], position: usize, word: u64, width: usize)
     or_short(dst, position, word, width);
 }
 
-/// The path of `set_word` for digits within eight octets.
+/// Does what `set_word` does for digits within eight octets.
 #[inline(always)]
 fn set_near(dst: &mut [u8], position: usize, word: u64, width: usize)
     requires width { position % 8 + width ≤ 64 }

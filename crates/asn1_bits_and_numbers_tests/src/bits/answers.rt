@@ -1,4 +1,4 @@
-//! The calls by their names. A call that cannot be made of its words has no answer.
+//! Answers calls by their names. A call that its words do not make has no answer.
 
 use crate::bits::{
     bit_appender, bit_buffer, bit_reader, bit_str, bit_string, callers, extended, fixed_bit_string,
@@ -7,7 +7,7 @@ use crate::bits::{
 use asn1_test_rows::{Answers, RowError, answer_each, wrong};
 use std::alloc::Global;
 
-/// Whether a function of a type or a module is one that works on bits.
+/// Returns whether a function of a type or a module works on bits.
 pub fn has(owner: &str, name: &str) -> bool {
     match owner {
         "BitStr" | "BitBuffer" | "BitAppender" | "BitString" | "FixedBitString" => true,
@@ -17,7 +17,7 @@ pub fn has(owner: &str, name: &str) -> bool {
     }
 }
 
-/// The calls, each by itself.
+/// Answers one call at a time.
 struct Calls;
 
 impl Answers for Calls {
@@ -30,12 +30,13 @@ impl Answers for Calls {
     }
 }
 
-/// The answer of a call, or, where one of its words is a range, its answers for each number there.
+/// Returns the answer to a call, or the answers for each number of a range, if one of its words is
+/// a range.
 pub fn answer(alloc: Global, call: &str, words: &[&str]) -> Result<String, RowError> {
     answer_each(alloc, &Calls, call, words)
 }
 
-/// The answer of a call.
+/// Appends the answer to a call.
 fn answer_once(alloc: Global, text: &mut String, call: &str, words: &[&str]) -> Option<()> {
     match call.split_once("::") {
         Some((kind, name)) => answer_of(alloc, text, kind, name, words),
@@ -43,7 +44,7 @@ fn answer_once(alloc: Global, text: &mut String, call: &str, words: &[&str]) -> 
     }
 }
 
-/// The answer of a call of a type.
+/// Appends the answer to a call of a type's function.
 fn answer_of(
     alloc: Global,
     text: &mut String,
@@ -65,7 +66,7 @@ fn answer_of(
     }
 }
 
-/// The answer of a call that has no type.
+/// Appends the answer to a call of a function without a type.
 fn answer_alone(alloc: Global, text: &mut String, call: &str, words: &[&str]) -> Option<()> {
     match call {
         "or_bits" | "write_bitslice" | "overwrite_bitslice" | "overwrite_number" => {

@@ -1,4 +1,4 @@
-//! Calls of appenders. What is pushed is a word, as `push:677:5`.
+//! Calls of appenders. A push is a word, such as `push:677:5`.
 
 use crate::bits::steps::{ones, push_state};
 use crate::bits::words::{
@@ -7,7 +7,7 @@ use crate::bits::words::{
 use asn1_bits::{BitAppender, BitBuffer, Turns, read_bits};
 use std::alloc::Global;
 
-/// The answer of a call.
+/// Appends the answer to a call.
 pub fn answer(alloc: Global, text: &mut String, name: &str, words: &[&str]) -> Option<()> {
     match name {
         "room" => fill(alloc, text, words),
@@ -16,9 +16,9 @@ pub fn answer(alloc: Global, text: &mut String, name: &str, words: &[&str]) -> O
     }
 }
 
-/// `ONES ROOM PIECE ..`: after so many ones, room for so many bits is filled by the pieces: how
-/// many bits of room are left before the first and after each, then how many bits the buffer has,
-/// and its octets.
+/// Answers `ONES ROOM PIECE ..`: makes room for ROOM bits after ONES ones, and fills it with the
+/// pieces. The answer is how many bits of room are left before the first piece and after each, then
+/// the number of bits of the buffer, and its octets.
 fn fill(alloc: Global, text: &mut String, words: &[&str]) -> Option<()> {
     if let [count, room, pieces @ ..] = words
         && let Some(count) = size(count)
@@ -31,7 +31,7 @@ fn fill(alloc: Global, text: &mut String, words: &[&str]) -> Option<()> {
     None
 }
 
-/// Fills room for so many bits.
+/// Fills room for `room` bits.
 fn fill_room(
     alloc: Global,
     text: &mut String,
@@ -48,7 +48,7 @@ fn fill_room(
     }
 }
 
-/// Pushes each piece, and tells the room before it and at the end.
+/// Pushes each piece. Appends the room before each piece and at the end.
 fn push_each(
     alloc: Global,
     text: &mut String,
@@ -92,7 +92,7 @@ fn push_wide(appender: &mut BitAppender<'_>, digits: (u128, usize)) -> Option<()
     Some(appender.push_wide(value, width, &mut Turns::new()))
 }
 
-/// Pushes a number that has at most so many digits.
+/// Pushes a number and its width, if the number fits it and the room.
 fn push_below(appender: &mut BitAppender<'_>, digits: (u128, usize)) -> Option<()> {
     let (value, width) = digits;
     if width > 127 || value >= 1u128 << width || width > appender.room() {
@@ -125,8 +125,8 @@ fn push_part(appender: &mut BitAppender<'_>, part: &Part) -> Option<()> {
     None
 }
 
-/// `VALUE WIDTH`: the octets of three ones and the lowest digits of a number in room for them, and
-/// the number of these digits that is read back.
+/// Answers `VALUE WIDTH`: the octets of three ones and the lowest digits of a number, pushed into
+/// room for them alone, and the number that is read back from these digits.
 fn digits_behind_ones(alloc: Global, text: &mut String, words: &[&str]) -> Option<()> {
     if let [value, width] = words
         && let Some(value) = wide(value)
@@ -138,7 +138,7 @@ fn digits_behind_ones(alloc: Global, text: &mut String, words: &[&str]) -> Optio
     None
 }
 
-/// Appends octets, and the number of so many of their bits.
+/// Appends octets, and the number of `width` of their bits.
 fn tell_digits(alloc: Global, text: &mut String, octets: &[u8], width: usize) -> Option<()> {
     if let Some(number) = read_back(octets, width)
         && let Some(()) = push_octets(alloc, text, octets)
@@ -148,7 +148,7 @@ fn tell_digits(alloc: Global, text: &mut String, octets: &[u8], width: usize) ->
     None
 }
 
-/// The octets of three ones and the digits.
+/// Returns the octets of three ones and the digits.
 fn octets_behind(alloc: Global, digits: (u128, usize)) -> Option<Vec<u8>> {
     if let Some(mut buffer) = ones(alloc, 3)
         && let Some(()) = push_alone(&mut buffer, digits)
@@ -169,7 +169,7 @@ fn push_alone(buffer: &mut BitBuffer, digits: (u128, usize)) -> Option<()> {
     }
 }
 
-/// The number of the bits after the three first.
+/// Returns the number of the bits after the first three.
 fn read_back(octets: &[u8], width: usize) -> Option<u128> {
     if width > 32 || octets.len() > 8 || 3 + width > 8 * octets.len() {
         return None;

@@ -1,4 +1,4 @@
-//! Calls of buffers. A buffer is made by steps.
+//! Calls of buffers. Steps make a buffer.
 
 use crate::bits::steps::{buffer_of, ones, push_bytes, push_digits, push_state, take_all, tell};
 use crate::bits::words::{
@@ -7,7 +7,7 @@ use crate::bits::words::{
 use asn1_bits::{BitBuffer, BitStr, read_u128};
 use std::alloc::Global;
 
-/// The answer of a call.
+/// Appends the answer to a call.
 pub fn answer(alloc: Global, text: &mut String, name: &str, words: &[&str]) -> Option<()> {
     match name {
         "new" => tell(alloc, text, &mut BitBuffer::new(alloc), words),
@@ -22,7 +22,8 @@ pub fn answer(alloc: Global, text: &mut String, name: &str, words: &[&str]) -> O
     }
 }
 
-/// A buffer in the octets of the first word, before the steps and after each.
+/// Answers a row of steps on a buffer in the octets of the first word: the buffer before the steps
+/// and after each.
 fn from_vec(alloc: Global, text: &mut String, words: &[&str]) -> Option<()> {
     if let [own, steps @ ..] = words
         && let Some(own) = octets_of(alloc, own)
@@ -32,7 +33,7 @@ fn from_vec(alloc: Global, text: &mut String, words: &[&str]) -> Option<()> {
     None
 }
 
-/// Tells of a buffer before the steps and after each.
+/// Appends a buffer before the steps and after each.
 fn tell_from(
     alloc: Global,
     text: &mut String,
@@ -59,7 +60,7 @@ fn clone(alloc: Global, text: &mut String, steps: &[&str]) -> Option<()> {
     None
 }
 
-/// The bits that are lent, and how they compare with the view of the first word.
+/// Appends the borrowed bits, and how they compare with the view of the first word.
 fn as_bitstr(alloc: Global, text: &mut String, words: &[&str]) -> Option<()> {
     if let [view, steps @ ..] = words
         && let Some(buffer) = buffer_of(alloc, steps)
@@ -80,8 +81,8 @@ pub fn tell_bits(alloc: Global, text: &mut String, own: BitStr<'_>, other: &str)
     None
 }
 
-/// Whether a buffer of one step is equal to one in the octets of the second word, after the other
-/// steps.
+/// Appends whether a buffer after one step equals a buffer in the octets of the second word after
+/// the other steps.
 fn eq(alloc: Global, text: &mut String, words: &[&str]) -> Option<()> {
     if let [step, own, steps @ ..] = words
         && let Some(other) = buffer_in(alloc, own, steps)
@@ -92,7 +93,7 @@ fn eq(alloc: Global, text: &mut String, words: &[&str]) -> Option<()> {
     None
 }
 
-/// A buffer in these octets in which each step was taken.
+/// Returns a buffer in these octets after each step.
 fn buffer_in(alloc: Global, own: &str, steps: &[&str]) -> Option<BitBuffer> {
     if let Some(own) = octets_of(alloc, own) {
         let mut buffer = BitBuffer::from_vec(own);
@@ -103,8 +104,8 @@ fn buffer_in(alloc: Global, own: &str, steps: &[&str]) -> Option<BitBuffer> {
     None
 }
 
-/// `ONES VALUE WIDTH`: the octets of so many ones and the lowest digits of a number, and the number
-/// of these digits that is read back.
+/// Answers `ONES VALUE WIDTH`: the octets of ONES ones and the lowest digits of a number, and the
+/// number that is read back from these digits.
 fn digits_behind_ones(alloc: Global, text: &mut String, words: &[&str]) -> Option<()> {
     if let [count, value, width] = words
         && let Some(count) = size(count)
@@ -117,7 +118,7 @@ fn digits_behind_ones(alloc: Global, text: &mut String, words: &[&str]) -> Optio
     None
 }
 
-/// Appends octets, and the number of so many of their bits, from one of them on.
+/// Appends octets, and the number of some of their bits, from one bit on.
 fn tell_digits(
     alloc: Global,
     text: &mut String,
@@ -133,7 +134,7 @@ fn tell_digits(
     None
 }
 
-/// A buffer of so many ones and the digits.
+/// Returns a buffer of `count` ones and the digits.
 fn buffer_behind(alloc: Global, count: usize, digits: (u128, usize)) -> Option<BitBuffer> {
     if let Some(mut buffer) = ones(alloc, count)
         && let Some(()) = push_digits(&mut buffer, digits)
@@ -143,7 +144,7 @@ fn buffer_behind(alloc: Global, count: usize, digits: (u128, usize)) -> Option<B
     None
 }
 
-/// The number of so many bits of the octets, from one of them on.
+/// Returns the number of `width` bits of the octets, from bit `first` on.
 fn read_back(octets: &[u8], first: usize, width: usize) -> Option<u128> {
     if let Some(view) = BitStr::new(octets, first, width)
         && view.len() <= 128
@@ -153,7 +154,7 @@ fn read_back(octets: &[u8], first: usize, width: usize) -> Option<u128> {
     None
 }
 
-/// `ONES OCTETS`: the octets of so many ones and the bits of octets.
+/// Answers `ONES OCTETS`: the octets of ONES ones and the bits of octets.
 fn octets_behind_ones(alloc: Global, text: &mut String, words: &[&str]) -> Option<()> {
     if let [count, src] = words
         && let Some(count) = size(count)
@@ -164,7 +165,7 @@ fn octets_behind_ones(alloc: Global, text: &mut String, words: &[&str]) -> Optio
     None
 }
 
-/// A buffer of so many ones and the bits of octets.
+/// Returns a buffer of `count` ones and the bits of octets.
 fn octets_behind(alloc: Global, count: usize, src: &str) -> Option<BitBuffer> {
     if let Some(src) = octets_of(alloc, src)
         && let Some(mut buffer) = ones(alloc, count)

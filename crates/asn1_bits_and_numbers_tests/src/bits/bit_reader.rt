@@ -1,4 +1,4 @@
-//! Calls of readers. What is asked of a reader is a word, as `split:5`.
+//! Calls of readers. A call on a reader is a word, such as `split:5`.
 
 use crate::bits::words::{
     append, octets_of, part_of, push_bit, push_bits, push_number, push_octets, size,
@@ -6,7 +6,7 @@ use crate::bits::words::{
 use asn1_bits::{BitReader, Octets, read_u128};
 use std::alloc::Global;
 
-/// The answer of a call.
+/// Appends the answer to a call.
 pub fn answer(alloc: Global, text: &mut String, name: &str, words: &[&str]) -> Option<()> {
     match (name, words) {
         ("new", [first, steps @ ..]) => new(alloc, text, first, steps),
@@ -77,7 +77,7 @@ fn take_some(
     }
 }
 
-/// Appends the answer on the bits that are taken off.
+/// Appends the answer to a call on the bits that `split` takes.
 fn take_off(
     alloc: Global,
     text: &mut String,
@@ -124,7 +124,7 @@ fn first_u128(
     push_number(alloc, text, reader.first_u128(width))
 }
 
-/// The octets that are left, if they are lent.
+/// Appends the octets that are left, if they are borrowed.
 fn aligned_octets(alloc: Global, text: &mut String, reader: &BitReader<'_>) -> Option<()> {
     match reader.aligned_octets() {
         Some(octets) => push_octets(alloc, text, octets),
@@ -132,7 +132,7 @@ fn aligned_octets(alloc: Global, text: &mut String, reader: &BitReader<'_>) -> O
     }
 }
 
-/// The bits that are taken off, or how many are missing.
+/// Appends the bits that `split` takes, or how many are missing.
 fn split(alloc: Global, text: &mut String, reader: &mut BitReader<'_>, count: usize) -> Option<()> {
     match reader.split(count) {
         Ok(front) => push_bits(text, front.bits()),
@@ -143,7 +143,7 @@ fn split(alloc: Global, text: &mut String, reader: &mut BitReader<'_>, count: us
     }
 }
 
-/// The number of the bits.
+/// Appends the number of the bits.
 fn number(alloc: Global, text: &mut String, reader: &BitReader<'_>) -> Option<()> {
     if reader.len() > 128 {
         return None;
@@ -151,7 +151,7 @@ fn number(alloc: Global, text: &mut String, reader: &BitReader<'_>) -> Option<()
     push_number(alloc, text, read_u128(reader.bits()))
 }
 
-/// The octets, and whether they are lent or a copy.
+/// Appends the octets, and whether they are borrowed or a copy.
 fn octets_left(alloc: Global, text: &mut String, reader: &BitReader<'_>) -> Option<()> {
     if reader.len() % 8 != 0 {
         return None;

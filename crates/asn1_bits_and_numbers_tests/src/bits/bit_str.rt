@@ -7,7 +7,7 @@ use crate::bits::words::{
 use asn1_bits::BitStr;
 use std::alloc::Global;
 
-/// The answer of a call.
+/// Appends the answer to a call.
 pub fn answer(alloc: Global, text: &mut String, name: &str, words: &[&str]) -> Option<()> {
     match name {
         "new" => new(alloc, text, words),
@@ -16,7 +16,7 @@ pub fn answer(alloc: Global, text: &mut String, name: &str, words: &[&str]) -> O
     }
 }
 
-/// The bits of a view, or `none`.
+/// Appends the bits of a view, or `none`.
 fn new(alloc: Global, text: &mut String, words: &[&str]) -> Option<()> {
     match part_of_three(alloc, words)?.view() {
         Some(view) => push_bits(text, view),
@@ -34,7 +34,7 @@ fn from_octets(alloc: Global, text: &mut String, words: &[&str]) -> Option<()> {
     None
 }
 
-/// The answer of a call on the view of the first word.
+/// Appends the answer to a call on the view of the first word.
 fn answer_on_view(alloc: Global, text: &mut String, name: &str, words: &[&str]) -> Option<()> {
     if let [first, rest @ ..] = words
         && let Some(part) = part_of(alloc, first)
@@ -74,7 +74,7 @@ fn get(text: &mut String, view: BitStr<'_>, rest: &[&str]) -> Option<()> {
     None
 }
 
-/// So many bits of a view, from one of them on.
+/// Appends LEN bits of a view, from bit FROM on.
 fn slice(text: &mut String, view: BitStr<'_>, rest: &[&str]) -> Option<()> {
     if let [from, len] = rest
         && let Some(from) = size(from)
@@ -87,7 +87,7 @@ fn slice(text: &mut String, view: BitStr<'_>, rest: &[&str]) -> Option<()> {
     None
 }
 
-/// What precedes an index of a view, and what follows it.
+/// Appends the bits of a view before an index, and those from it on.
 fn split_at(text: &mut String, view: BitStr<'_>, rest: &[&str]) -> Option<()> {
     if let [at] = rest
         && let Some(at) = size(at)

@@ -1,4 +1,4 @@
-//! Calls of bit strings. A bit string is made by steps, as `from_vec:FF truncate:3`.
+//! Calls of bit strings. Steps make a bit string, such as `from_vec:FF truncate:3`.
 
 use crate::bits::words::{
     MANY, Part, octets_of, part_of, part_of_three, push_bits, push_number, push_octets, push_order,
@@ -7,7 +7,7 @@ use crate::bits::words::{
 use asn1_bits::{BitString, extend_bitstring, to_bitstring};
 use std::alloc::Global;
 
-/// The answer of a call.
+/// Appends the answer to a call.
 pub fn answer(alloc: Global, text: &mut String, name: &str, words: &[&str]) -> Option<()> {
     match name {
         "new" => tell(alloc, text, words),
@@ -18,7 +18,7 @@ pub fn answer(alloc: Global, text: &mut String, name: &str, words: &[&str]) -> O
     }
 }
 
-/// The answer of a call on a string.
+/// Appends the answer to a call on a string.
 fn answer_on(alloc: Global, text: &mut String, name: &str, bits: &BitString) -> Option<()> {
     match name {
         "as_bitstr" => push_bits(text, bits.as_bitstr()),
@@ -28,7 +28,7 @@ fn answer_on(alloc: Global, text: &mut String, name: &str, bits: &BitString) -> 
     }
 }
 
-/// Takes each step, and tells how many bits the string has then, and its octets.
+/// Takes each step. Appends how many bits the string has after it, and its octets.
 fn tell(alloc: Global, text: &mut String, steps: &[&str]) -> Option<()> {
     let mut bits = BitString::new(alloc);
     for step in steps {
@@ -44,7 +44,7 @@ fn push_state(alloc: Global, text: &mut String, bits: &BitString) -> Option<()> 
     push_octets(alloc, text, bits.as_raw_slice())
 }
 
-/// A string for which each step was taken.
+/// Returns a string after each step.
 fn string_of(alloc: Global, steps: &[&str]) -> Option<BitString> {
     let mut bits = BitString::new(alloc);
     for step in steps {
@@ -65,13 +65,13 @@ fn take(alloc: Global, bits: &mut BitString, step: &str) -> Option<()> {
     }
 }
 
-/// Makes it a string of all bits of the octets.
+/// Replaces the string by one of all bits of the octets.
 fn from_vec(bits: &mut BitString, octets: Vec<u8>) -> Option<()> {
     *bits = string_in(octets)?;
     Some(())
 }
 
-/// A string of all bits of the octets.
+/// Returns a string of all bits of the octets.
 pub fn string_in(octets: Vec<u8>) -> Option<BitString> {
     if octets.len() > MANY {
         return None;
@@ -79,13 +79,13 @@ pub fn string_in(octets: Vec<u8>) -> Option<BitString> {
     Some(BitString::from_vec(octets))
 }
 
-/// Makes it a string of the part's bits.
+/// Replaces the string by one of the part's bits.
 fn copy(alloc: Global, bits: &mut BitString, part: &Part) -> Option<()> {
     *bits = copy_of(alloc, part)?;
     Some(())
 }
 
-/// A string of the part's bits.
+/// Returns a string of the part's bits.
 fn copy_of(alloc: Global, part: &Part) -> Option<BitString> {
     to_bitstring(alloc, part.view()?).ok()
 }
@@ -108,7 +108,7 @@ fn into_vec(alloc: Global, text: &mut String, steps: &[&str]) -> Option<()> {
     }
 }
 
-/// A copy, and how it compares with its original.
+/// Appends a copy, and how it compares with its original.
 fn clone(alloc: Global, text: &mut String, bits: &BitString) -> Option<()> {
     if let Ok(copy) = bits.clone()
         && let Some(()) = push_state(alloc, text, &copy)
@@ -118,7 +118,7 @@ fn clone(alloc: Global, text: &mut String, bits: &BitString) -> Option<()> {
     None
 }
 
-/// How the strings of two parts compare.
+/// Appends how the strings of two parts compare.
 fn cmp(alloc: Global, text: &mut String, words: &[&str]) -> Option<()> {
     if let [one, other] = words
         && let Some(one) = string_at(alloc, one)
@@ -129,7 +129,7 @@ fn cmp(alloc: Global, text: &mut String, words: &[&str]) -> Option<()> {
     None
 }
 
-/// The string of the part that a word encodes.
+/// Returns the string of the part that a word encodes.
 fn string_at(alloc: Global, word: &str) -> Option<BitString> {
     match part_of(alloc, word) {
         Some(part) => copy_of(alloc, &part),
@@ -137,7 +137,7 @@ fn string_at(alloc: Global, word: &str) -> Option<BitString> {
     }
 }
 
-/// `OCTETS FIRST LEN`: the octets of a copy's bits, and how it compares with the view.
+/// Answers `OCTETS FIRST LEN`: the octets of a copy of the view, and how it compares with the view.
 fn compare_copy(alloc: Global, text: &mut String, words: &[&str]) -> Option<()> {
     if let Some(part) = part_of_three(alloc, words)
         && let Some(view) = part.view()

@@ -1,5 +1,4 @@
-//! Callers that are proved from the contracts alone: none of their proofs names a lemma of the
-//! library.
+//! Callers that are proved by the contracts alone: no proof of theirs cites a lemma of the library.
 
 ghost use Rattle.std.specs.Prelude.{◌≡◌, ◌+◌, ◌%◌, ◌^◌, ◌<◌, ◌++◌, length, replicate, false, take, drop, OnOk, OnErr, IfOk, IsOk};
 ghost use Rattle.asn1_bits.specs.Bits.{digits};
@@ -11,7 +10,7 @@ use crate::bits::words::{MANY, Part, append, part_of, push_number, push_octets};
 use asn1_bits::{BitBuffer, BitReader, BitStr, BitString, Octets, to_bitstring};
 use std::alloc::{AllocError, Global};
 
-/// Whether there is a caller of this name.
+/// Returns whether there is a caller of this name.
 pub fn has(name: &str) -> bool {
     matches!(
         name,
@@ -19,7 +18,7 @@ pub fn has(name: &str) -> bool {
     )
 }
 
-/// The answer of a call.
+/// Appends the answer to a call.
 pub fn answer(alloc: Global, text: &mut String, name: &str, words: &[&str]) -> Option<()> {
     match (name, words) {
         ("pushes_two", [a, b]) => two_pushed(alloc, text, a.parse().ok()?, b.parse().ok()?),
@@ -28,7 +27,7 @@ pub fn answer(alloc: Global, text: &mut String, name: &str, words: &[&str]) -> O
     }
 }
 
-/// The answer of a call on a view.
+/// Appends the answer to a call on a view.
 fn answer_on_view(alloc: Global, text: &mut String, name: &str, view: &str) -> Option<()> {
     if let Some(part) = part_of(alloc, view)
         && let Some(view) = part.view()
@@ -53,7 +52,7 @@ fn answer_in(
     }
 }
 
-/// Room that is filled.
+/// Pushes two numbers into room for seven bits.
 fn pushes_two(buffer: &mut BitBuffer, a: u32, b: u32) -> Result<(), AllocError>
     requires { length buffer.old + 7 < 2 ^ 64 }
     ensures ok { OnOk result (buffer.new ≡ (buffer.old ++ digits a 3) ++ digits b 4) }
@@ -65,14 +64,14 @@ fn pushes_two(buffer: &mut BitBuffer, a: u32, b: u32) -> Result<(), AllocError>
     Ok(())
 }
 
-/// An empty buffer after it.
+/// Appends the state of an empty buffer after `pushes_two`.
 fn two_pushed(alloc: Global, text: &mut String, a: u32, b: u32) -> Option<()> {
     let mut buffer = BitBuffer::new(alloc);
     pushes_two(&mut buffer, a, b).ok()?;
     push_state(alloc, text, &buffer)
 }
 
-/// Room that is left.
+/// Leaves five bits of the room, which are zeros.
 fn leaves_room(buffer: &mut BitBuffer) -> Result<(), AllocError>
     requires { length buffer.old + 10 < 2 ^ 64 }
     ensures ok { OnOk result (buffer.new ≡ (buffer.old ++ digits 0x2A5 5) ++ replicate 5 false) }
@@ -83,7 +82,7 @@ fn leaves_room(buffer: &mut BitBuffer) -> Result<(), AllocError>
     Ok(())
 }
 
-/// A buffer of a part's bits after it.
+/// Appends the state of a buffer of a part's bits after `leaves_room`.
 fn room_left(alloc: Global, text: &mut String, part: &Part) -> Option<()> {
     let mut buffer = BitBuffer::new(alloc);
     if let Some(()) = push_part(&mut buffer, part)
@@ -101,7 +100,7 @@ fn leave_room(buffer: &mut BitBuffer) -> Option<()> {
     leaves_room(buffer).ok()
 }
 
-/// The octets of a bit string that fills them are lent.
+/// Borrows the octets of a bit string that fills whole octets.
 fn lends_its_octets(alloc: Global, bits: &BitString) -> Result<Octets<'_>, AllocError>
     requires { length bits.now % 8 ≡ 0 }
     ensures lent { IfOk result IsBorrowed }
@@ -110,7 +109,7 @@ fn lends_its_octets(alloc: Global, bits: &BitString) -> Result<Octets<'_>, Alloc
     BitReader::new(bits.as_bitstr()).octets(alloc)
 }
 
-/// The octets of a view's bits.
+/// Appends the octets of a copy of a view, if they are whole.
 fn octets_lent(alloc: Global, text: &mut String, view: BitStr<'_>) -> Option<()> {
     if let Ok(copy) = to_bitstring(alloc, view)
         && copy.len() % 8 == 0
@@ -121,7 +120,7 @@ fn octets_lent(alloc: Global, text: &mut String, view: BitStr<'_>) -> Option<()>
     None
 }
 
-/// Two numbers, one after another.
+/// Reads a number of 3 bits and one of 16 bits.
 fn reads_two(reader: &mut BitReader<'_>) -> Result<(u128, u128), usize>
     ensures first { IfOk result (λ r. digits r.0 3 ≡ take 3 (bits_left reader.old)) }
     ensures second { IfOk result (λ r. digits r.1 16 ≡ take 16 (drop 3 (bits_left reader.old))) }
@@ -131,7 +130,7 @@ fn reads_two(reader: &mut BitReader<'_>) -> Result<(u128, u128), usize>
     Ok((first.first_u128(3), second.first_u128(16)))
 }
 
-/// The numbers of a view's first bits, or how many are missing.
+/// Appends the two numbers of a view's first bits, or how many bits are missing.
 fn two_read(alloc: Global, text: &mut String, view: BitStr<'_>) -> Option<()> {
     match reads_two(&mut BitReader::new(view)) {
         Ok((first, second)) => {

@@ -1,4 +1,4 @@
-//! A view after so many ones, in a buffer and in a bit string.
+//! A view after some ones, in a buffer and in a bit string.
 
 use crate::bits::bit_string::{extend, string_in};
 use crate::bits::steps::{ones, push_part};
@@ -6,8 +6,8 @@ use crate::bits::words::{Part, append, pack_bits, part_of_three, push_octets, si
 use asn1_bits::BitString;
 use std::alloc::Global;
 
-/// `ONES OCTETS FIRST LEN`: the octets of the ones and the view's bits in a buffer, and `other`
-/// after them if a bit string has other octets or shows other bits.
+/// Answers `ONES OCTETS FIRST LEN`: the octets of ONES ones and the view's bits in a buffer,
+/// followed by `other` if a bit string has other octets or other bits.
 pub fn answer(alloc: Global, text: &mut String, words: &[&str]) -> Option<()> {
     if let [count, src @ ..] = words
         && let Some(count) = size(count)
@@ -20,7 +20,7 @@ pub fn answer(alloc: Global, text: &mut String, words: &[&str]) -> Option<()> {
     None
 }
 
-/// The octets of the ones and the part's bits.
+/// Returns the octets of the ones and the part's bits.
 fn buffer_octets(alloc: Global, count: usize, part: &Part) -> Option<Vec<u8>> {
     if let Some(mut buffer) = ones(alloc, count)
         && let Some(()) = push_part(&mut buffer, part)
@@ -30,7 +30,8 @@ fn buffer_octets(alloc: Global, count: usize, part: &Part) -> Option<Vec<u8>> {
     None
 }
 
-/// Appends `other` if a string of the first bits of the octets and the part's is another one.
+/// Appends `other` if a string of the octets' first bits and the part's bits has other octets or
+/// other bits.
 fn compare(
     alloc: Global,
     text: &mut String,
@@ -51,7 +52,7 @@ fn compare(
     None
 }
 
-/// So many bits of the octets, and then the part's bits.
+/// Returns the first `count` bits of the octets, followed by the part's bits.
 fn string_of(octets: Vec<u8>, count: usize, part: &Part) -> Option<BitString> {
     if let Some(mut string) = string_in(octets) {
         string.truncate(count);
@@ -62,7 +63,7 @@ fn string_of(octets: Vec<u8>, count: usize, part: &Part) -> Option<BitString> {
     None
 }
 
-/// Whether a string has these octets and shows their bits.
+/// Returns whether a string has these octets, and their bits.
 fn is_string_of(alloc: Global, string: &BitString, octets: &[u8]) -> Option<bool> {
     match pack_bits(alloc, string.as_bitstr()) {
         Some(shown) => Some(string.as_raw_slice() == octets && shown.as_slice() == octets),

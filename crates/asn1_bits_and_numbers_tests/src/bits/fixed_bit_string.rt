@@ -5,7 +5,7 @@ use crate::bits::words::{append, bit_of, octets_of, part_of, push_order};
 use asn1_bits::FixedBitString;
 use std::alloc::Global;
 
-/// The answer of a call.
+/// Appends the answer to a call.
 pub fn answer(alloc: Global, text: &mut String, name: &str, words: &[&str]) -> Option<()> {
     match name {
         "set" => set_each(alloc, text, words),
@@ -16,8 +16,8 @@ pub fn answer(alloc: Global, text: &mut String, name: &str, words: &[&str]) -> O
     }
 }
 
-/// The string that a word names: `zero`, or `new` and three octets, or `from_bitstr` and a view, or
-/// `set` and the bits that zeros are set to.
+/// Returns the string that a word names: `zero`, `new` with three octets, `from_bitstr` with a
+/// view, or `set` with the bits to set.
 fn string_of_word(alloc: Global, word: &str) -> Option<FixedBitString<3>> {
     match word.split_once(':') {
         Some(("new", rest)) => new(octets_of(alloc, rest)?),
@@ -61,7 +61,8 @@ fn push_state(text: &mut String, bits: &FixedBitString<3>) -> Option<()> {
     Some(())
 }
 
-/// The bits of a string, and after each bit that is set, as `1:0`.
+/// Appends the bits of a string, and its bits after each step, such as `1:0`, which sets bit 1 to
+/// 0.
 fn set_each(alloc: Global, text: &mut String, words: &[&str]) -> Option<()> {
     let (first, steps) = words.split_first()?;
     let mut bits = string_of_word(alloc, first)?;
@@ -81,7 +82,7 @@ fn set(bits: &mut FixedBitString<3>, to: (usize, bool)) -> Option<()> {
     Some(bits.set(place, bit))
 }
 
-/// The bits of a view, if they are three.
+/// Appends the bits of a view, if they are three.
 fn from_bitstr(alloc: Global, text: &mut String, words: &[&str]) -> Option<()> {
     if let [word] = words
         && let Some(part) = part_of(alloc, word)
@@ -99,7 +100,7 @@ fn push_string(text: &mut String, bits: Option<FixedBitString<3>>) -> Option<()>
     }
 }
 
-/// The bits that are lent, and how they compare with the view of the second word.
+/// Appends the borrowed bits, and how they compare with the view of the second word.
 fn as_bitstr(alloc: Global, text: &mut String, words: &[&str]) -> Option<()> {
     if let [own, view] = words
         && let Some(own) = string_of_word(alloc, own)

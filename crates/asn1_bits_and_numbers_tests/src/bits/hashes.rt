@@ -1,11 +1,11 @@
-//! Hashes of lists of bits: those of a list's length and words, wherever its bits lie.
+//! Hashes of lists of bits: the hash depends on the length and the bits, not on where they are.
 
 use crate::bits::words::{part_of, push_truth};
 use asn1_bits::{BitStr, FixedBitString, to_bitstring};
 use std::alloc::Global;
 use std::hash::{FoldHasher, Hash, Hasher};
 
-/// The answer of a call on the view of the first word.
+/// Appends the answer to a call on the view of the first word.
 pub fn answer(alloc: Global, text: &mut String, name: &str, words: &[&str]) -> Option<()> {
     if let [first, numbers @ ..] = words
         && let Some(part) = part_of(alloc, first)
@@ -16,8 +16,7 @@ pub fn answer(alloc: Global, text: &mut String, name: &str, words: &[&str]) -> O
     None
 }
 
-/// Whether the hash of a view is that of its length and of the numbers, or the hash of a copy that
-/// of the view.
+/// Appends whether the hash of a view is that of its length and the numbers, or that of a copy.
 fn answer_on(
     alloc: Global,
     text: &mut String,
@@ -31,7 +30,7 @@ fn answer_on(
     }
 }
 
-/// The hash that is compared with that of a view.
+/// Returns the hash to compare with that of a view.
 fn other_hash(alloc: Global, name: &str, view: BitStr<'_>, numbers: &[&str]) -> Option<u64> {
     match name {
         "BitStr" => plain_hash(view.len(), numbers),
@@ -41,14 +40,15 @@ fn other_hash(alloc: Global, name: &str, view: BitStr<'_>, numbers: &[&str]) -> 
     }
 }
 
-/// The hash of a value.
+/// Returns the hash of a value.
 fn hash_of<T: Hash>(value: &T) -> u64 {
     let mut hasher = FoldHasher::default();
     value.hash(&mut hasher);
     hasher.finish()
 }
 
-/// The hash of how many bits there are, and of the numbers of each 64 of them and of the last ones.
+/// Returns the hash of the number of bits, of the number of each 64 of them, and of the number of
+/// the last ones.
 fn plain_hash(len: usize, numbers: &[&str]) -> Option<u64> {
     let mut hasher = FoldHasher::default();
     hasher.write_usize(len);

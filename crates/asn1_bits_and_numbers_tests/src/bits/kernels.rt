@@ -6,7 +6,7 @@ use crate::bits::words::{MANY, append, octets_of, part_of, push_number, push_oct
 use asn1_bits::{BitStr, aligned_octets, range_from_len, read_bits, read_u128, read_wide};
 use std::alloc::Global;
 
-/// The answer of a call.
+/// Appends the answer to a call.
 pub fn answer(alloc: Global, text: &mut String, call: &str, words: &[&str]) -> Option<()> {
     match words {
         [octets, position, width] => answer_three(alloc, text, call, octets, position, width),
@@ -33,7 +33,7 @@ fn answer_three(
     None
 }
 
-/// The number of so many bits of the octets, from one of them on.
+/// Returns the number of `width` bits of the octets, from bit `first` on.
 fn read(call: &str, octets: &[u8], place: (usize, usize)) -> Option<u128> {
     match call {
         "read_bits" => bits(octets, place),
@@ -42,7 +42,7 @@ fn read(call: &str, octets: &[u8], place: (usize, usize)) -> Option<u128> {
     }
 }
 
-/// The answer of a call with one word.
+/// Appends the answer to a call with one word.
 fn answer_one(alloc: Global, text: &mut String, call: &str, word: &str) -> Option<()> {
     match call {
         "range_from_len" => push_number(alloc, text, range(word)?),
@@ -52,7 +52,7 @@ fn answer_one(alloc: Global, text: &mut String, call: &str, word: &str) -> Optio
     }
 }
 
-/// The octets that a view lies on, if it begins and ends at octets.
+/// Appends the octets of a view that begins and ends at octets.
 fn lent(alloc: Global, text: &mut String, word: &str) -> Option<()> {
     if let Some(part) = part_of(alloc, word)
         && let Some(view) = part.view()
@@ -106,7 +106,8 @@ fn wide(octets: &[u8], place: (usize, usize)) -> Option<u128> {
     Some(read_wide(octets, position, width))
 }
 
-/// Whether the octets have so many bits from one on, and no more bits than are good for rows.
+/// Returns whether the octets have `width` bits from bit `position` on, and are not too many for a
+/// row.
 pub fn are_within(octets: &[u8], position: usize, width: usize) -> bool
     ensures { IsTrue result ↔ ((length octets.now ≤ 100000) × (position ≤ 800000)
         × (width ≤ 800000) × (position + width ≤ 8 * length octets.now)) }

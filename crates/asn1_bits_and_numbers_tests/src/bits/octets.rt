@@ -1,10 +1,10 @@
-//! Calls of octets that are lent or a copy.
+//! Calls of octets that are borrowed or a copy.
 
 use crate::bits::words::{octets_of, push_truth};
 use asn1_bits::Octets;
 use std::alloc::Global;
 
-/// The answer of a call.
+/// Appends the answer to a call.
 pub fn answer(alloc: Global, text: &mut String, name: &str, words: &[&str]) -> Option<()> {
     match (name, words) {
         ("eq", [own, lent]) => eq(alloc, text, own, lent),
@@ -12,7 +12,7 @@ pub fn answer(alloc: Global, text: &mut String, name: &str, words: &[&str]) -> O
     }
 }
 
-/// Whether a copy of the first octets is equal to the second, which are lent.
+/// Appends whether a copy of the first octets equals the second octets, which are borrowed.
 fn eq(alloc: Global, text: &mut String, own: &str, lent: &str) -> Option<()> {
     if let Some(lent) = octets_of(alloc, lent)
         && let Some(own) = octets_of(alloc, own)

@@ -5,7 +5,7 @@ use crate::bits::words::{Part, part_of, size, wide};
 use asn1_bits::{Turns, overwrite_bitslice, overwrite_number};
 use std::alloc::Global;
 
-/// `VIEW`: writes the view's bits.
+/// Answers `VIEW`: writes the view's bits.
 pub fn put_view(alloc: Global, target: &mut [u8], position: usize, words: &[&str]) -> Option<()> {
     if let [view] = words
         && let Some(part) = part_of(alloc, view)
@@ -24,7 +24,7 @@ fn put_part(target: &mut [u8], position: usize, part: &Part) -> Option<()> {
     None
 }
 
-/// `VALUE WIDTH`: writes the number's lowest digits.
+/// Answers `VALUE WIDTH`: writes the number's lowest digits.
 pub fn put_number(target: &mut [u8], position: usize, words: &[&str]) -> Option<()> {
     if let [value, width] = words
         && let Some(value) = wide(value)
@@ -35,7 +35,7 @@ pub fn put_number(target: &mut [u8], position: usize, words: &[&str]) -> Option<
     None
 }
 
-/// Writes the lowest digits of a number, its value and how many, if there is room for them.
+/// Writes the lowest digits of a number, a value and a width, if there is room for them.
 pub fn put_digits(target: &mut [u8], position: usize, digits: (u128, usize)) -> Option<()> {
     let (value, width) = digits;
     if width > 128 || !are_within(target, position, width) {

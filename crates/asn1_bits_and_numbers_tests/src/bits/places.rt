@@ -1,4 +1,4 @@
-//! A target that counts how often a word is placed in it.
+//! A target that counts the words that are stored in it.
 
 ghost use Rattle.std.specs.Prelude.{◌≤◌};
 ghost use Rattle.asn1_bits.specs.Bits.{bits};
@@ -7,7 +7,8 @@ use crate::bits::words::{push_number, size};
 use asn1_bits::{BitStr, Places, Turns, place_bits, write_bitslice};
 use std::alloc::Global;
 
-/// `POSITION COUNT`: how many words are placed for so many ones from a bit of the target on.
+/// Answers `POSITION COUNT`: how many words are stored for COUNT ones from bit POSITION of the
+/// target on.
 pub fn answer(alloc: Global, text: &mut String, words: &[&str]) -> Option<()> {
     if let [position, count] = words
         && let Some(position) = size(position)
@@ -20,7 +21,7 @@ pub fn answer(alloc: Global, text: &mut String, words: &[&str]) -> Option<()> {
     None
 }
 
-/// Octets that count how often a word is placed in them.
+/// Octets that count the words that are stored in them.
 #[derive(Drop)]
 struct Counted {
     octets: [u8; 128],
@@ -47,7 +48,7 @@ impl Places for Counted {
     }
 }
 
-/// How many words `place_bits` places for so many bits at bit `position`.
+/// Returns how many words `place_bits` stores for `count` bits at bit `position`.
 fn calls(position: usize, count: usize) -> u64
     requires position { position ≤ 8 }
     requires count { count ≤ 640 }

@@ -1,4 +1,4 @@
-//! What is done with a buffer, step by step: a step is a word, as `push_bits:5:3`.
+//! Steps on a buffer. A step is a word, such as `push_bits:5:3`.
 
 use crate::bits::words::{
     MANY, Part, bit_of, digits_of, octets_of, part_of, push_number, push_octets, size,
@@ -6,7 +6,7 @@ use crate::bits::words::{
 use asn1_bits::BitBuffer;
 use std::alloc::Global;
 
-/// Takes each step, and tells how many bits the buffer has then, and its octets.
+/// Takes each step. Appends how many bits the buffer has after it, and its octets.
 pub fn tell(
     alloc: Global,
     text: &mut String,
@@ -26,7 +26,7 @@ pub fn push_state(alloc: Global, text: &mut String, buffer: &BitBuffer) -> Optio
     push_octets(alloc, text, buffer.as_bytes())
 }
 
-/// A buffer in which each step was taken.
+/// Returns a buffer after each step.
 pub fn buffer_of(alloc: Global, steps: &[&str]) -> Option<BitBuffer> {
     let mut buffer = BitBuffer::new(alloc);
     take_all(alloc, &mut buffer, steps)?;
@@ -66,7 +66,7 @@ fn push(buffer: &mut BitBuffer, bit: bool) -> Option<()> {
     buffer.push(bit).ok()
 }
 
-/// Pushes the lowest digits of a number: its value and how many.
+/// Pushes the lowest digits of a number: a value and a width.
 pub fn push_digits(buffer: &mut BitBuffer, digits: (u128, usize)) -> Option<()> {
     let (value, width) = digits;
     if width > 128 || buffer.len() > MANY {
@@ -131,7 +131,7 @@ fn set(buffer: &mut BitBuffer, to: (usize, bool)) -> Option<()> {
     Some(buffer.set(place, bit))
 }
 
-/// A buffer of so many ones.
+/// Returns a buffer of `count` ones.
 pub fn ones(alloc: Global, count: usize) -> Option<BitBuffer> {
     let mut buffer = BitBuffer::new(alloc);
     buffer.resize(count, true).ok()?;

@@ -1,12 +1,12 @@
-//! Calls that write, at many indices and lengths, compared bit by bit with what they are to leave.
+//! Calls that write, at many positions and widths, compared bit by bit with what they must leave.
 
 use crate::bits::overwritten::put_digits;
 use crate::bits::words::{octets_of, push_number, size, wide};
 use crate::bits::written::or_into;
 use std::alloc::Global;
 
-/// `OCTETS SOURCE POSITIONS COUNTS`: how many positions and counts, of so many of each, leave the
-/// right bits.
+/// Answers `OCTETS SOURCE POSITIONS COUNTS`: for how many of POSITIONS positions and COUNTS counts
+/// the bits are right.
 pub fn or(alloc: Global, text: &mut String, words: &[&str]) -> Option<()> {
     if let [old, src, positions, counts] = words
         && let Some(positions) = size(positions)
@@ -20,8 +20,8 @@ pub fn or(alloc: Global, text: &mut String, words: &[&str]) -> Option<()> {
     None
 }
 
-/// `OCTETS VALUE POSITIONS WIDTHS`: how many positions and widths, of so many of each, leave the
-/// right bits.
+/// Answers `OCTETS VALUE POSITIONS WIDTHS`: for how many of POSITIONS positions and WIDTHS widths
+/// the bits are right.
 pub fn overwrite(alloc: Global, text: &mut String, words: &[&str]) -> Option<()> {
     if let [old, value, positions, widths] = words
         && let Some(positions) = size(positions)
@@ -35,7 +35,7 @@ pub fn overwrite(alloc: Global, text: &mut String, words: &[&str]) -> Option<()>
     None
 }
 
-/// How many positions and counts leave the right bits.
+/// Returns for how many positions and counts the bits are right.
 fn sweep_ors(alloc: Global, old: &[u8], src: &[u8], end: (usize, usize)) -> Option<u128> {
     let mut right = 0u128;
     for position in 0..end.0 {
@@ -44,7 +44,7 @@ fn sweep_ors(alloc: Global, old: &[u8], src: &[u8], end: (usize, usize)) -> Opti
     Some(right)
 }
 
-/// How many counts leave the right bits at a position.
+/// Returns for how many counts the bits are right at a position.
 fn ored_at(alloc: Global, old: &[u8], src: &[u8], position: usize, counts: usize) -> Option<u128> {
     let mut right = 0u128;
     for count in 0..counts {
@@ -55,7 +55,7 @@ fn ored_at(alloc: Global, old: &[u8], src: &[u8], position: usize, counts: usize
     Some(right)
 }
 
-/// Whether the first bits of the source, ORed into the octets, leave the right bits.
+/// Returns whether the bits are right after the first bits of the source are ORed into the octets.
 fn is_right_or(
     alloc: Global,
     old: &[u8],
@@ -71,7 +71,7 @@ fn is_right_or(
     None
 }
 
-/// Returns whether each bit is the old one ORed with the bit that the source has for its index.
+/// Returns whether each bit is the old bit, ORed with the bit that the source has for its index.
 fn is_ored(after: &[u8], before: &[u8], src: &[u8], position: usize, count: usize) -> bool {
     let mut is_right = after.len() == before.len();
     for place in 0..8 * after.len().min(100) {
@@ -84,7 +84,7 @@ fn is_ored(after: &[u8], before: &[u8], src: &[u8], position: usize, count: usiz
     is_right
 }
 
-/// Bit `place` of the octets.
+/// Returns bit `place` of the octets.
 fn bit(octets: &[u8], place: usize) -> bool {
     match octets.get(place / 8) {
         Some(octet) => (octet >> (7 - place % 8)) & 1 == 1,
@@ -92,7 +92,7 @@ fn bit(octets: &[u8], place: usize) -> bool {
     }
 }
 
-/// How many positions and widths leave the right bits.
+/// Returns for how many positions and widths the bits are right.
 fn sweep_overwrites(alloc: Global, old: &[u8], value: u128, end: (usize, usize)) -> Option<u128> {
     let mut right = 0u128;
     for position in 0..end.0 {
@@ -101,7 +101,7 @@ fn sweep_overwrites(alloc: Global, old: &[u8], value: u128, end: (usize, usize))
     Some(right)
 }
 
-/// How many widths leave the right bits at a position.
+/// Returns for how many widths the bits are right at a position.
 fn overwritten_at(
     alloc: Global,
     old: &[u8],
@@ -118,7 +118,7 @@ fn overwritten_at(
     Some(right)
 }
 
-/// Whether the digits of a number, written over the octets, leave the right bits.
+/// Returns whether the bits are right after the digits of a number are written over the octets.
 fn is_right_number(
     alloc: Global,
     old: &[u8],
@@ -133,7 +133,8 @@ fn is_right_number(
     None
 }
 
-/// Returns whether each bit is the digit written to its index, or otherwise the old bit.
+/// Returns whether each bit is the digit that was written to its index, and every other bit the old
+/// one.
 fn is_overwritten(after: &[u8], before: &[u8], digits: (u128, usize), position: usize) -> bool {
     let mut is_right = after.len() == before.len();
     for place in 0..8 * after.len().min(100) {
@@ -146,7 +147,7 @@ fn is_overwritten(after: &[u8], before: &[u8], digits: (u128, usize), position: 
     is_right
 }
 
-/// Digit `place` of the lowest `width` digits of the number, the highest of them first.
+/// Returns digit `place` of the lowest `width` digits of the number, most significant first.
 fn digit(value: u128, width: usize, place: usize) -> bool {
     match width.checked_sub(place) {
         Some(behind) if behind >= 1 && behind <= 128 => (value >> (behind - 1)) & 1 == 1,

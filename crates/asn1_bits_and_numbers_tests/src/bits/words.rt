@@ -1,4 +1,5 @@
-//! The words of rows on bits. What cannot be read of a word, or when out of memory, is none.
+//! The words of rows on bits. A word that cannot be read is `None`, and so is every word if out of
+//! memory.
 
 use asn1_bits::BitStr;
 pub use asn1_test_rows::words_or_none::{append, octets_of, push_number, push_octets, size, wide};
@@ -7,7 +8,7 @@ use std::alloc::Global;
 /// More bits than any row has.
 pub const MANY: usize = 100_000;
 
-/// Octets, and which of their bits a view is to show.
+/// Octets, and which of their bits a view has.
 #[derive(Drop)]
 pub struct Part {
     pub octets: Vec<u8>,
@@ -16,13 +17,13 @@ pub struct Part {
 }
 
 impl Part {
-    /// The view that shows it, where it lies within its octets.
+    /// Returns the view, if its bits are in the octets.
     pub fn view(&self) -> Option<BitStr<'_>> {
         BitStr::new(self.octets.as_slice(), self.first, self.len)
     }
 }
 
-/// The part that a word encodes: `A55A:4:8` has 8 bits from bit 4 of the octets on.
+/// Returns the part that a word encodes: `A55A:4:8` has 8 bits from bit 4 of the octets on.
 pub fn part_of(alloc: Global, word: &str) -> Option<Part> {
     if let Some((octets, place)) = word.split_once(':')
         && let Some((first, len)) = place.split_once(':')
@@ -32,7 +33,7 @@ pub fn part_of(alloc: Global, word: &str) -> Option<Part> {
     None
 }
 
-/// The part that three words encode.
+/// Returns the part that three words encode.
 pub fn part_of_three(alloc: Global, words: &[&str]) -> Option<Part> {
     match words {
         [octets, first, len] => part_from(alloc, octets, first, len),
@@ -50,7 +51,7 @@ fn part_from(alloc: Global, octets: &str, first: &str, len: &str) -> Option<Part
     None
 }
 
-/// A number and a size, joined by a colon.
+/// Returns a number and a size, joined by a colon.
 pub fn digits_of(word: &str) -> Option<(u128, usize)> {
     if let Some((value, width)) = word.split_once(':')
         && let Some(value) = wide(value)
@@ -61,7 +62,7 @@ pub fn digits_of(word: &str) -> Option<(u128, usize)> {
     None
 }
 
-/// A size and a bit, joined by a colon.
+/// Returns a size and a bit, joined by a colon.
 pub fn bit_of(word: &str) -> Option<(usize, bool)> {
     if let Some((place, bit)) = word.split_once(':')
         && let Some(place) = size(place)
@@ -81,7 +82,7 @@ pub fn push_bit(text: &mut String, bit: bool) -> Option<()> {
     append(text, if bit { "1" } else { "0" })
 }
 
-/// Appends the bits that a view shows as `0` and `1`, `-` for none.
+/// Appends the bits of a view as `0` and `1`, or `-` if there are none.
 pub fn push_bits(text: &mut String, view: BitStr<'_>) -> Option<()> {
     if view.len() == 0 {
         return append(text, "-");
@@ -93,7 +94,7 @@ pub fn push_bits(text: &mut String, view: BitStr<'_>) -> Option<()> {
     Some(())
 }
 
-/// Appends the bits that a view shows in octets, with zeros to the end of the last.
+/// Appends the bits of a view in octets, with zeros to the end of the last.
 pub fn push_packed(alloc: Global, text: &mut String, view: BitStr<'_>) -> Option<()> {
     match pack_bits(alloc, view) {
         Some(octets) => push_octets(alloc, text, octets.as_slice()),
@@ -101,7 +102,7 @@ pub fn push_packed(alloc: Global, text: &mut String, view: BitStr<'_>) -> Option
     }
 }
 
-/// The bits that a view shows in octets, with zeros to the end of the last.
+/// Returns the bits of a view in octets, with zeros to the end of the last.
 pub fn pack_bits(alloc: Global, view: BitStr<'_>) -> Option<Vec<u8>> {
     let mut octets = Vec::new(alloc);
     let mut octet = 0u8;

@@ -6,8 +6,8 @@ use crate::bits::words::{Part, octets_of, part_of_three, push_octets, size};
 use asn1_bits::{Turns, extend_vec_from_bitslice, or_bits, write_bitslice};
 use std::alloc::Global;
 
-/// `OCTETS POSITION ..`: the octets in which a call wrote what the other words encode, from the bit
-/// at the position on.
+/// Answers `OCTETS POSITION ..`: the octets after a call wrote what the other words encode, from
+/// bit POSITION on.
 pub fn answer(alloc: Global, text: &mut String, call: &str, words: &[&str]) -> Option<()> {
     if let [old, position, others @ ..] = words
         && let Some(position) = size(position)
@@ -35,7 +35,7 @@ fn put(
     }
 }
 
-/// `SOURCE COUNT`: ORs the first bits of the source in.
+/// Answers `SOURCE COUNT`: ORs the first bits of the source in.
 fn or(alloc: Global, target: &mut [u8], position: usize, words: &[&str]) -> Option<()> {
     if let [src, count] = words
         && let Some(count) = size(count)
@@ -46,7 +46,7 @@ fn or(alloc: Global, target: &mut [u8], position: usize, words: &[&str]) -> Opti
     None
 }
 
-/// ORs the first bits of the source in, if they are there and there is room for them.
+/// ORs the first bits of the source in, if it has them and there is room for them.
 pub fn or_into(target: &mut [u8], src: &[u8], position: usize, count: usize) -> Option<()> {
     if !are_within(src, 0, count) || !are_within(target, position, count) {
         return None;
@@ -64,7 +64,7 @@ fn write_part(target: &mut [u8], position: usize, part: &Part) -> Option<()> {
     None
 }
 
-/// `OCTETS SOURCE FIRST LEN`: the octets, and after them those of a view.
+/// Answers `OCTETS SOURCE FIRST LEN`: the octets, followed by those of a view.
 pub fn extend(alloc: Global, text: &mut String, words: &[&str]) -> Option<()> {
     if let [old, src @ ..] = words
         && let Some(part) = part_of_three(alloc, src)

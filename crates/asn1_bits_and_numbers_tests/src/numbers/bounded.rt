@@ -9,11 +9,11 @@ use std::str::FromStr;
 /// The numbers from -8 to 360.
 type Bounded = ConstrainedInteger<-8, 360>;
 
-/// The numbers between bounds that leave none.
+/// A type without numbers.
 type Empty = ConstrainedInteger<5, 3>;
 
-/// The answers of `ConstrainedInteger`; its bounds are -8 and 360, where the name says nothing
-/// else.
+/// Answers the calls of `ConstrainedInteger`. Its bounds are -8 and 360, unless the name says
+/// otherwise.
 pub fn answer(alloc: Global, name: &str, words: &[&str]) -> Result<String, RowError> {
     match words {
         [word] => of_word(alloc, name, word),
@@ -43,7 +43,7 @@ fn of_number(alloc: Global, name: &str, number: i32) -> Result<String, RowError>
     }
 }
 
-/// The number of a native type, or why it is rejected.
+/// Returns the number of a native type, or the error.
 fn try_native<T>(alloc: Global, word: &str) -> Result<String, RowError>
 where
     T: FromStr,
@@ -53,7 +53,7 @@ where
     try_number(alloc, Bounded::try_from(parse_word::<T>(alloc, word)?))
 }
 
-/// The number, if it lies within the bounds.
+/// Returns the number, if it lies within the bounds.
 fn bounded_number(alloc: Global, word: &str) -> Result<Bounded, RowError> {
     match Bounded::try_from(parse_word::<i32>(alloc, word)?) {
         Ok(number) => Ok(number),
@@ -61,7 +61,7 @@ fn bounded_number(alloc: Global, word: &str) -> Result<Bounded, RowError> {
     }
 }
 
-/// The number, or why it is rejected.
+/// Returns the number, or the error.
 fn try_number<const START: i64, const END: i64>(
     alloc: Global,
     number: Result<ConstrainedInteger<START, END>, TryFromIntegerError>,
@@ -72,7 +72,7 @@ fn try_number<const START: i64, const END: i64>(
     }
 }
 
-/// The number that an error hands back.
+/// Returns the number that an error has, by value.
 fn handed_back(
     alloc: Global,
     number: Result<Bounded, TryFromIntegerError>,
@@ -94,7 +94,7 @@ fn lent_back(
     }
 }
 
-/// The number out of the type with its bounds.
+/// Returns the number without its bounds.
 fn taken_out(
     alloc: Global,
     number: Result<Bounded, TryFromIntegerError>,
@@ -105,7 +105,7 @@ fn taken_out(
     }
 }
 
-/// Whether the copy of a number equals the number.
+/// Returns whether the copy of a number equals the number.
 fn compare_copy(
     alloc: Global,
     number: Result<Bounded, TryFromIntegerError>,
@@ -116,7 +116,7 @@ fn compare_copy(
     }
 }
 
-/// Whether the first number is below the second.
+/// Returns whether the first number is below the second.
 fn is_below(alloc: Global, first: &str, second: &str) -> Result<String, RowError> {
     let first = bounded_number(alloc, first)?;
     show_value(alloc, first < bounded_number(alloc, second)?)

@@ -1,5 +1,4 @@
-//! Callers that are proved from the contracts alone: none of their proofs names a lemma of a
-//! library.
+//! Callers that are proved by the contracts alone: no proof of theirs cites a lemma of a library.
 
 ghost use Rattle.std.specs.Prelude.{◌≡◌, ◌+◌, ◌++◌, ◌↔◌, ℕ, List, length, pos, IsTrue, OnErr, IfOk, IfSome};
 ghost use Rattle.asn1_number.specs.Octets.{IsShortest};
@@ -15,7 +14,7 @@ use asn1_oid::{ContentsError, ObjectIdentifier, Oid};
 use asn1_test_rows::{RowError, hex_of, octets, optional, outcome, parse_word, show_value, wrong};
 use std::alloc::{AllocError, Global};
 
-/// The answers of the callers.
+/// Answers the calls of these callers.
 pub fn answer(alloc: Global, name: &str, words: &[&str]) -> Result<String, RowError> {
     match (name, words) {
         ("version", [word]) => version_text(alloc, word),
@@ -71,7 +70,7 @@ fn of_contents(
     }
 }
 
-/// A number by way of its octets, as an encoder writes it and a decoder reads it.
+/// Encodes a number and decodes its octets.
 fn by_its_octets(alloc: Global, number: &Integer) -> Result<Integer, IntegerError>
     ensures value { IfOk result (λ n. n ≡ number.now) }
     ensures memory { OnErr result (¬ (FitsI128 number.now)) }
@@ -79,8 +78,8 @@ fn by_its_octets(alloc: Global, number: &Integer) -> Result<Integer, IntegerErro
     Integer::from_signed_octets(alloc, number.signed_octets().as_ref())
 }
 
-/// How many octets a number takes with its length octet before it, if the short form of lengths
-/// holds it.
+/// Returns how many octets a number takes with its length octet, if the short form of lengths
+/// suffices.
 fn octets_with_length(number: &Integer) -> Option<usize>
     ensures { IfSome result (λ n. (o : List ℕ) → IsShortest number.now o → n ≡ 1 + length o) }
 {
@@ -88,7 +87,7 @@ fn octets_with_length(number: &Integer) -> Option<usize>
     if octets < 128 { Some(1 + octets) } else { None }
 }
 
-/// A version number, from the contents of an INTEGER: one octet holds it, or the error says why.
+/// Returns a version number of one octet from the contents of an INTEGER.
 fn version(alloc: Global, contents: &[u8]) -> Result<u8, IntegerError>
     ensures { Answers (UnsignedOf 1) (λ n. pos n) result
         (signed_reading (UnsignedOf 1) contents.now) }
@@ -96,7 +95,7 @@ fn version(alloc: Global, contents: &[u8]) -> Result<u8, IntegerError>
     u8::try_from_signed_bytes(alloc, contents)
 }
 
-/// Whether two numbers of one type are the same, whichever type it is: by their checked difference.
+/// Returns whether two numbers of any one type are equal, by their checked difference.
 fn are_one_number(a: i64, b: i64) -> bool
     ensures { IsTrue result ↔ (a ≡ b) }
 {
@@ -106,7 +105,8 @@ fn are_one_number(a: i64, b: i64) -> bool
     }
 }
 
-/// Whether the octets are the contents of this identifier: they are read, and the arcs compared.
+/// Returns whether the octets are the contents of this identifier. They are decoded, and the arcs
+/// compared.
 fn is_this(alloc: Global, contents: &[u8], oid: &Oid) -> Result<bool, ContentsError>
     ensures { IfOk result (λ same. IsTrue same ↔ IsContents (arcs_of oid.now) contents.now) }
 {
@@ -127,7 +127,7 @@ fn append(oid: &Oid, octets: &mut Vec<u8>) -> Result<bool, AllocError>
     Ok(true)
 }
 
-/// The octets with the contents after them, if there are any.
+/// Returns the octets, followed by the contents, if there are any.
 fn append_contents(alloc: Global, mut octets: Vec<u8>, oid: &Oid) -> Result<String, RowError> {
     if append(oid, &mut octets)? {
         return hex_of(alloc, octets.as_slice());

@@ -9,8 +9,8 @@ use asn1_test_rows::{RowError, hex_of, octets, optional, parse_word, show_value,
 use std::alloc::Global;
 use std::borrow::CowSlice;
 
-/// The answers of the functions of contents: of octets, of a limit and octets, or of arcs, a number
-/// and octets.
+/// Answers the calls on contents: of octets, of a limit and octets, or of arcs, a number and
+/// octets.
 pub fn answer(alloc: Global, name: &str, words: &[&str]) -> Result<String, RowError> {
     match words {
         [] => laws(alloc),
@@ -39,7 +39,7 @@ fn of_words(
     of_arcs(alloc, name, arcs.as_slice(), count, octets(alloc, spelled)?)
 }
 
-/// The answers on octets.
+/// Answers the calls on octets.
 fn of_octets(alloc: Global, name: &str, octets: &[u8]) -> Result<String, RowError> {
     match name {
         "check_contents" => check_octets(alloc, octets),
@@ -49,7 +49,7 @@ fn of_octets(alloc: Global, name: &str, octets: &[u8]) -> Result<String, RowErro
     }
 }
 
-/// The answers on a borrowed identifier.
+/// Answers the calls on a borrowed identifier.
 pub fn of_oid(alloc: Global, name: &str, oid: Oid<'_>) -> Result<String, RowError> {
     match name {
         "contents" => write_contents(alloc, oid),
@@ -59,7 +59,7 @@ pub fn of_oid(alloc: Global, name: &str, oid: Oid<'_>) -> Result<String, RowErro
     }
 }
 
-/// The octets of a copy of the contents, of which the first octet was taken.
+/// Returns the octets of a copy of the contents that was made after their first octet was taken.
 fn clone_contents(alloc: Global, oid: Oid<'_>) -> Result<String, RowError> {
     let Some(mut contents) = oid.contents() else {
         return show_value(alloc, "none");
@@ -70,8 +70,8 @@ fn clone_contents(alloc: Global, oid: Oid<'_>) -> Result<String, RowError> {
     hex_of(alloc, copy.collect::<Vec<u8>>(alloc)?.as_slice())
 }
 
-/// The answers on the contents of arcs, of which so many octets are taken, and on octets before
-/// them.
+/// Answers the calls on the contents of arcs, of which `count` octets are taken first, and on
+/// octets before them.
 fn of_arcs(
     alloc: Global,
     name: &str,
@@ -93,12 +93,12 @@ fn of_arcs(
     }
 }
 
-/// The iterator over the contents of an identifier; None where it has none.
+/// Returns the iterator over the contents of an identifier, or `None` if it has no contents.
 fn start_contents(arcs: &[u32]) -> Option<OidContents<'_>> {
     Oid::new(arcs)?.contents()
 }
 
-/// The contents of an identifier, octet by octet; None where it has none.
+/// Returns the contents of an identifier, octet by octet, or `None` if it has no contents.
 pub fn contents_of(alloc: Global, oid: Oid<'_>) -> Result<Option<Vec<u8>>, RowError> {
     let Some(contents) = oid.contents() else {
         return Ok(None);
@@ -117,7 +117,7 @@ fn write_contents(alloc: Global, oid: Oid<'_>) -> Result<String, RowError> {
     }
 }
 
-/// Takes so many octets from the contents.
+/// Takes `count` octets from the contents.
 fn take(alloc: Global, contents: &mut OidContents<'_>, count: usize) -> Result<Vec<u8>, RowError> {
     let mut octets = Vec::new(alloc);
     for _ in 0..count {
@@ -128,7 +128,7 @@ fn take(alloc: Global, contents: &mut OidContents<'_>, count: usize) -> Result<V
     Ok(octets)
 }
 
-/// The hint when so many octets were taken, and whether there is a next one.
+/// Returns the size hint after `count` octets were taken, and whether there is a next octet.
 fn hint_of(alloc: Global, mut contents: OidContents<'_>, count: usize) -> Result<String, RowError> {
     let taken = take(alloc, &mut contents, count)?.len();
     let (least, most) = contents.size_hint();
@@ -137,14 +137,14 @@ fn hint_of(alloc: Global, mut contents: OidContents<'_>, count: usize) -> Result
     Ok(format!(in alloc; "{taken} {least} {most} {more}")?)
 }
 
-/// How many octets are left after the first ones.
+/// Returns how many octets are left after the first `count`.
 fn len_of(alloc: Global, mut contents: OidContents<'_>, count: usize) -> Result<String, RowError> {
     let _taken = take(alloc, &mut contents, count)?;
     let len = contents.len();
     Ok(format!(in alloc; "{len}")?)
 }
 
-/// The octets that were taken first, and the octets with the rest of the contents after them.
+/// Returns the first `count` octets, and the given octets followed by the rest of the contents.
 fn append_contents(
     alloc: Global,
     mut contents: OidContents<'_>,
@@ -158,8 +158,8 @@ fn append_contents(
     Ok(text)
 }
 
-/// Takes octets from the ends that are named, 00 for the front and other octets for the back, so
-/// many times over.
+/// Takes an octet from each of the given ends, `times` times: 00 is the front, another octet the
+/// back.
 fn take_ends(
     alloc: Global,
     contents: &mut OidContents<'_>,
@@ -182,14 +182,14 @@ fn take_ends(
     Ok(octets)
 }
 
-/// The octets that were taken, how many are left, and the others.
+/// Returns the taken octets, how many are left, and the others.
 fn show_ends(alloc: Global, taken: &[u8], len: usize, others: &[u8]) -> Result<String, RowError> {
     let taken = hex_of(alloc, taken)?;
     let others = hex_of(alloc, others)?;
     Ok(format!(in alloc; "{taken} {len} {others}")?)
 }
 
-/// The octets of the ends, and the others appended at once.
+/// Returns the octets of the ends, and the others, appended at once.
 fn append_between(
     alloc: Global,
     mut contents: OidContents<'_>,
@@ -203,7 +203,7 @@ fn append_between(
     show_ends(alloc, taken.as_slice(), len, others.as_slice())
 }
 
-/// The octets of the ends, and the others of a copy one by one.
+/// Returns the octets of the ends, and the others, taken one by one from a copy.
 fn collect_between(
     alloc: Global,
     mut contents: OidContents<'_>,
@@ -216,7 +216,8 @@ fn collect_between(
     show_ends(alloc, taken.as_slice(), len, others.as_slice())
 }
 
-/// Whether octets with the contents after them have no more room than the limit.
+/// Returns whether a vector of octets followed by the contents has at most `limit` octets of
+/// capacity.
 fn has_room(
     alloc: Global,
     contents: OidContents<'_>,
@@ -241,7 +242,7 @@ fn read(alloc: Global, octets: &[u8]) -> Result<String, RowError> {
     }
 }
 
-/// Whether the arcs that were read are owned and have no more room than the limit.
+/// Returns whether the decoded arcs are owned, in a vector with a capacity of at most `limit`.
 fn room_of_read(alloc: Global, limit: usize, octets: &[u8]) -> Result<String, RowError> {
     match ObjectIdentifier::from_contents(alloc, &octets) {
         Ok(identifier) => room_of(alloc, limit, identifier.into_arcs()),
@@ -256,7 +257,7 @@ fn room_of(alloc: Global, limit: usize, arcs: CowSlice<'static, u32>) -> Result<
     }
 }
 
-/// The functions whose contracts are laws, and that do nothing.
+/// Calls the functions whose contracts are laws, which do nothing.
 fn laws(alloc: Global) -> Result<String, RowError> {
     laws_of_contents();
     show_value(alloc, true)

@@ -7,7 +7,7 @@ use std::alloc::Global;
 use std::fmt::Display;
 use std::str::FromStr;
 
-/// The answers of conversions of a native type.
+/// Answers the calls of conversions of a native type.
 pub fn answer(alloc: Global, call: &str, native: &str, words: &[&str]) -> Result<String, RowError> {
     let word = one(alloc, words)?;
     match native {
@@ -23,7 +23,7 @@ pub fn answer(alloc: Global, call: &str, native: &str, words: &[&str]) -> Result
     }
 }
 
-/// The answers of conversions of the wide types and of those of the machine.
+/// Answers the calls of conversions of the types of 128 bits, `isize` and `usize`.
 fn of_wide(alloc: Global, call: &str, native: &str, word: &str) -> Result<String, RowError> {
     match native {
         "u128" => given_to(alloc, call, u128::try_from(integer(alloc, word)?)),
@@ -50,8 +50,8 @@ fn octets_text(alloc: Global, number: &Integer) -> Result<String, RowError> {
     hex_of(alloc, number.signed_octets().as_ref())
 }
 
-/// The number as the native type, or its error: the text, what it hands back, or what its copy
-/// hands back.
+/// Returns the number as the native type, or of the error the text, its number, or the number of
+/// its copy.
 fn given_to<T: Display + Drop>(
     alloc: Global,
     call: &str,
@@ -64,7 +64,7 @@ fn given_to<T: Display + Drop>(
     }
 }
 
-/// The number that the copy of an error hands back, if it is an equal error.
+/// Returns the number of the copy of an error, if the copy equals the error.
 fn copy_of(alloc: Global, refused: TryFromIntegerError) -> Result<String, RowError> {
     let copy = refused.clone()?;
     if copy != refused {

@@ -9,10 +9,11 @@ use std::borrow::CowSlice;
 use std::collections::HashSet;
 use std::convert::AsSlice;
 
-/// Arcs that live as long as the program.
+/// Arcs that are borrowed for `'static`.
 const LENT: &[u32] = &[1, 2, 840, 10040, 2, 1];
 
-/// The answers of identifiers: of lent arcs, of those of a word, or of those of two words.
+/// Answers the calls on identifiers: of borrowed arcs, of the arcs of a word, or of those of two
+/// words.
 pub fn answer(alloc: Global, owner: &str, name: &str, words: &[&str]) -> Result<String, RowError> {
     match words {
         [] => of_lent(alloc, name),
@@ -23,7 +24,7 @@ pub fn answer(alloc: Global, owner: &str, name: &str, words: &[&str]) -> Result<
     }
 }
 
-/// The answers on a dotted text; `''` is the empty one.
+/// Answers the calls on a dotted text; `''` is the empty one.
 fn of_text(alloc: Global, name: &str, word: &str) -> Result<String, RowError> {
     let text = if word == "''" { "" } else { word };
     let mut room = [0; 3];
@@ -33,7 +34,7 @@ fn of_text(alloc: Global, name: &str, word: &str) -> Result<String, RowError> {
     }
 }
 
-/// The arcs, each of which a loop gave.
+/// Returns the arcs that a loop over the identifier visits.
 fn arcs_by_loop(alloc: Global, identifier: &ObjectIdentifier) -> Result<String, RowError> {
     let mut owned = Vec::new(alloc);
     for arc in identifier {
@@ -49,12 +50,12 @@ fn arcs_by_loop(alloc: Global, identifier: &ObjectIdentifier) -> Result<String, 
     arcs_text(alloc, owned.as_slice())
 }
 
-/// Whether both lend these arcs in generic code.
+/// Returns whether generic code finds these arcs in both.
 fn has_arcs<S: AsSlice<u32>, T: AsSlice<u32>>(first: &S, second: &T, arcs: &[u32]) -> bool {
     first.as_slice() == arcs && second.as_slice() == arcs
 }
 
-/// The answers on arcs, and on the identifier of them.
+/// Answers the calls on arcs, and on their identifier.
 fn of_arcs(alloc: Global, owner: &str, name: &str, arcs: Vec<u32>) -> Result<String, RowError> {
     match name {
         "new" => new_oid(alloc, arcs.as_slice()),
@@ -78,7 +79,7 @@ fn of_words(
     of_two(alloc, owner, name, &first, &second)
 }
 
-/// The answers on one identifier.
+/// Answers the calls on one identifier.
 fn of_one(
     alloc: Global,
     owner: &str,
@@ -96,7 +97,7 @@ fn of_one(
     }
 }
 
-/// The answers on two identifiers, borrowed or owned.
+/// Answers the calls on two identifiers, borrowed or owned.
 fn of_two(
     alloc: Global,
     owner: &str,
@@ -114,7 +115,7 @@ fn of_two(
     }
 }
 
-/// The answers on arcs that are lent for as long as the program runs, and on their copy.
+/// Answers the calls on `'static` arcs, and on their copy.
 fn of_lent(alloc: Global, name: &str) -> Result<String, RowError> {
     let Some(lent) = ObjectIdentifier::new(CowSlice::Borrowed(LENT)) else {
         return Err(wrong(alloc, name, "function of valid arcs"));
@@ -131,7 +132,7 @@ fn of_lent(alloc: Global, name: &str) -> Result<String, RowError> {
     }
 }
 
-/// Whether the copy of an identifier equals the other one.
+/// Returns whether the copy of an identifier equals another identifier.
 fn is_copied(
     alloc: Global,
     identifier: &ObjectIdentifier,
@@ -140,7 +141,7 @@ fn is_copied(
     show_value(alloc, identifier.clone()? == *other)
 }
 
-/// Whether a set that has the identifier has the other one.
+/// Returns whether a set with one identifier has another.
 fn is_found(
     alloc: Global,
     identifier: ObjectIdentifier,
@@ -151,7 +152,7 @@ fn is_found(
     show_value(alloc, seen.contains(other))
 }
 
-/// The identifier of arcs that a word encodes.
+/// Returns the identifier of arcs that a word encodes.
 fn identifier(alloc: Global, word: &str) -> Result<ObjectIdentifier, RowError> {
     match ObjectIdentifier::from_vec(arcs(alloc, word)?) {
         Some(identifier) => Ok(identifier),
@@ -173,18 +174,18 @@ fn from_vec(alloc: Global, arcs: Vec<u32>) -> Result<String, RowError> {
     }
 }
 
-/// The text of the owned identifier.
+/// Returns the text of the owned identifier.
 fn to_owned(alloc: Global, oid: Oid<'_>) -> Result<String, RowError> {
     show_value(alloc, oid.to_owned(alloc)?)
 }
 
-/// The arcs that were taken out of an identifier and made one again.
+/// Returns the arcs after they were taken out of an identifier and made an identifier again.
 fn taken_out(alloc: Global, identifier: ObjectIdentifier) -> Result<String, RowError> {
     let again = ObjectIdentifier::new_unchecked(identifier.into_arcs());
     arcs_text(alloc, Oid::new_unchecked(again.as_ref()).as_ref())
 }
 
-/// The identifier of the arcs in the other direction.
+/// Returns the identifier of the reversed arcs.
 fn reverse_arcs(alloc: Global, identifier: ObjectIdentifier) -> Result<String, RowError> {
     let mut turned = identifier.into_arcs().into_owned(alloc)?;
     turned.reverse();

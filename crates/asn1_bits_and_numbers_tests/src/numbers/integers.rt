@@ -7,7 +7,7 @@ use std::alloc::Global;
 use std::convert::AsSlice;
 use std::hash::{FoldHasher, Hash, Hasher};
 
-/// The answers of `Integer`: of no word, of octets, of a number, or of two.
+/// Answers the calls of `Integer`: without words, of octets, of one number, or of two.
 pub fn answer(alloc: Global, name: &str, words: &[&str]) -> Result<String, RowError> {
     match words {
         [] => constant(alloc, name),
@@ -27,7 +27,7 @@ fn of_words(alloc: Global, name: &str, first: &str, second: &str) -> Result<Stri
     of_two(alloc, name, &first, &integer(alloc, second)?)
 }
 
-/// The answers of `Integer` for a copy of the number.
+/// Answers the calls of `Integer` on a copy of the number.
 pub fn of_copy(alloc: Global, name: &str, word: &str) -> Result<String, RowError> {
     of_number(alloc, name, &integer(alloc, word)?.clone()?)
 }
@@ -50,7 +50,7 @@ fn read(alloc: Global, name: &str, octets: &[u8]) -> Result<String, RowError> {
     }
 }
 
-/// The number that was read, or why none was.
+/// Returns the number, or the error.
 pub fn read_text(alloc: Global, read: Result<Integer, IntegerError>) -> Result<String, RowError> {
     match read {
         Ok(number) => text_of(alloc, &number),
@@ -92,7 +92,7 @@ fn of_two(
     }
 }
 
-/// The number that two numbers make within `i128`.
+/// Returns the sum, difference or product of two numbers within `i128`.
 fn made_of_two(
     alloc: Global,
     name: &str,
@@ -111,12 +111,12 @@ fn made_of_two(
     }
 }
 
-/// The octets that a value lends in generic code.
+/// Returns the octets of a value, borrowed by generic code.
 fn lent_octets<T: AsSlice<u8>>(alloc: Global, lender: &T) -> Result<String, RowError> {
     hex_of(alloc, lender.as_slice())
 }
 
-/// Whether the copy of a number equals the other one.
+/// Returns whether the copy of a number equals another number.
 fn is_copied(alloc: Global, number: &Integer, other: &Integer) -> Result<String, RowError> {
     show_value(alloc, number.clone()? == *other)
 }

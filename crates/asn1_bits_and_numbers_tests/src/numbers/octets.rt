@@ -10,7 +10,7 @@ use asn1_number::{
 use asn1_test_rows::{RowError, hex_of, number, octets, parse_word, show_value, wrong};
 use std::alloc::Global;
 
-/// The answers of the functions on octets, on an `i128`, or of an error with its number of bits.
+/// Answers the calls on octets, on an `i128`, or on an error with its number of bits.
 pub fn answer(alloc: Global, name: &str, words: &[&str]) -> Result<String, RowError> {
     match words {
         [] => laws(alloc),
@@ -45,7 +45,7 @@ fn of_few(alloc: Global, name: &str, octets: &[u8]) -> Result<String, RowError>
     }
 }
 
-/// The functions whose contracts are laws, and that do nothing.
+/// Calls the functions whose contracts are laws, which do nothing.
 fn laws(alloc: Global) -> Result<String, RowError> {
     laws_of_shortest_octets();
     laws_of_wrapping();

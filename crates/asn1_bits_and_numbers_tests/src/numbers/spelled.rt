@@ -6,8 +6,8 @@ use std::alloc::Global;
 use std::cmp::Ordering;
 use std::str::FromStr;
 
-/// The number that a word encodes: in decimal, `x` and octets with a sign, or `u` and octets without
-/// one.
+/// Returns the number that a word encodes: in decimal, `x` and signed octets, or `u` and unsigned
+/// octets.
 pub fn integer(alloc: Global, word: &str) -> Result<Integer, RowError> {
     let read = if let Some(spelled) = word.strip_prefix('x') {
         Integer::from_signed_octets(alloc, octets(alloc, spelled)?.as_slice())
@@ -22,7 +22,7 @@ pub fn integer(alloc: Global, word: &str) -> Result<Integer, RowError> {
     }
 }
 
-/// The number that a word encodes in decimal, of at most 128 bits.
+/// Returns the number that a word encodes in decimal, of at most 128 bits.
 fn in_decimal(alloc: Global, word: &str) -> Result<Integer, RowError> {
     match i128::from_str(word) {
         Ok(number) => Ok(Integer::from(number)),
@@ -30,7 +30,7 @@ fn in_decimal(alloc: Global, word: &str) -> Result<Integer, RowError> {
     }
 }
 
-/// A number in decimal, or past `i128` as `x` and its octets.
+/// Returns a number in decimal, or as `x` and its octets if it exceeds `i128`.
 pub fn text_of(alloc: Global, number: &Integer) -> Result<String, RowError> {
     match number.to_i128() {
         Some(number) => show_value(alloc, number),
@@ -38,14 +38,14 @@ pub fn text_of(alloc: Global, number: &Integer) -> Result<String, RowError> {
     }
 }
 
-/// `x` and the octets of a number.
+/// Returns `x` and the octets of a number.
 fn octets_text(alloc: Global, number: &Integer) -> Result<String, RowError> {
     let mut text = String::from_str(alloc, "x")?;
     text.push_str(hex_of(alloc, number.signed_octets().as_ref())?.as_str())?;
     Ok(text)
 }
 
-/// The word of an order.
+/// Returns the word of an order.
 pub fn order_text(order: Ordering) -> &'static str {
     match order {
         Ordering::Less => "less",
@@ -54,7 +54,8 @@ pub fn order_text(order: Ordering) -> &'static str {
     }
 }
 
-/// The arcs that a word encodes with full stops between them, as `2.999+.3*4`; `-` for none.
+/// Returns the arcs that a word encodes, separated by full stops, such as `2.999+.3*4`; `-` is no
+/// arcs.
 pub fn arcs(alloc: Global, word: &str) -> Result<Vec<u32>, RowError> {
     let text = unfold_word(alloc, word)?;
     let mut arcs = Vec::new(alloc);
@@ -67,7 +68,7 @@ pub fn arcs(alloc: Global, word: &str) -> Result<Vec<u32>, RowError> {
     Ok(arcs)
 }
 
-/// The arcs with full stops between them, `-` for none.
+/// Returns the arcs separated by full stops, or `-` if there are none.
 pub fn arcs_text(alloc: Global, arcs: &[u32]) -> Result<String, RowError> {
     if arcs.is_empty() {
         return Ok(String::from_str(alloc, "-")?);

@@ -5,7 +5,8 @@ use asn1_oid::{ContentsError, ObjectIdentifier, Oid, check_contents};
 use asn1_test_rows::{RowError, show_value};
 use std::alloc::Global;
 
-/// How many lists agree with the rule: the octets, and each list of them and one more.
+/// Returns how many lists agree with the rule: the octets themselves, and the octets followed by
+/// each octet.
 pub fn agree(alloc: Global, octets: &[u8]) -> Result<String, RowError> {
     let mut agreeing = u32::from(agrees(alloc, octets)?);
     let mut longer = octets.to_vec(alloc)?;
@@ -18,8 +19,8 @@ pub fn agree(alloc: Global, octets: &[u8]) -> Result<String, RowError> {
     show_value(alloc, agreeing)
 }
 
-/// Whether the octets are written for the arcs that the rule has for them, and read as them; or are
-/// rejected where it has none.
+/// Returns whether the octets are the encoding of the arcs that the rule has for them, and decoded
+/// as these; or are rejected if the rule has none.
 fn agrees(alloc: Global, octets: &[u8]) -> Result<bool, RowError> {
     match arcs_by_rule(alloc, octets)? {
         Some(arcs) => are_contents_of(alloc, octets, arcs.as_slice()),
@@ -27,7 +28,7 @@ fn agrees(alloc: Global, octets: &[u8]) -> Result<bool, RowError> {
     }
 }
 
-/// The arcs of one octet or two; None where they are no contents.
+/// Returns the arcs of one or two octets, or `None` if these are no contents.
 fn arcs_by_rule(alloc: Global, octets: &[u8]) -> Result<Option<Vec<u32>>, RowError> {
     let (first, further) = match octets {
         [first @ 0..=0x7F] => (u32::from(*first), None),
@@ -45,7 +46,7 @@ fn arcs_by_rule(alloc: Global, octets: &[u8]) -> Result<Option<Vec<u32>>, RowErr
     Ok(Some(arcs))
 }
 
-/// The first two arcs of a subidentifier.
+/// Returns the first two arcs of a subidentifier.
 fn first_arcs(number: u32) -> (u32, u32) {
     match number {
         0..=39 => (0, number),
@@ -54,7 +55,7 @@ fn first_arcs(number: u32) -> (u32, u32) {
     }
 }
 
-/// Whether the octets are written for these arcs, and read as them.
+/// Returns whether the octets are the encoding of these arcs, and decoded as these.
 fn are_contents_of(alloc: Global, octets: &[u8], arcs: &[u32]) -> Result<bool, RowError> {
     let Some(oid) = Oid::new(arcs) else {
         return Ok(false);
@@ -69,7 +70,7 @@ fn are_contents_of(alloc: Global, octets: &[u8], arcs: &[u32]) -> Result<bool, R
     )
 }
 
-/// Whether the octets are read as the contents of these arcs.
+/// Returns whether the octets are decoded as these arcs.
 fn is_read_as(alloc: Global, octets: &[u8], arcs: &[u32]) -> bool {
     match ObjectIdentifier::from_contents(alloc, &octets) {
         Ok(read) => read.eq_arcs(arcs),
@@ -77,7 +78,7 @@ fn is_read_as(alloc: Global, octets: &[u8], arcs: &[u32]) -> bool {
     }
 }
 
-/// Whether the octets are rejected as malformed by both calls that look.
+/// Returns whether both calls that decode reject the octets as malformed.
 fn are_malformed(alloc: Global, octets: &[u8]) -> bool {
     let malformed = Some(ContentsError::Malformed);
     let read = ObjectIdentifier::from_contents(alloc, &octets);

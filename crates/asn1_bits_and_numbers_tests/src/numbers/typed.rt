@@ -8,7 +8,7 @@ use asn1_integer::{Integer, IntegerError, IntegerType};
 use asn1_test_rows::{RowError, hex_of, number, octets, optional, show_value, wrong};
 use std::alloc::Global;
 
-/// The answers of a type: a native one by its name, or `Integer` by the name of the trait.
+/// Answers the calls of a type: a native type by its name, or `Integer` by the name of the trait.
 pub fn answer(alloc: Global, owner: &str, name: &str, words: &[&str]) -> Result<String, RowError> {
     match owner {
         "u8" => of_native::<u8, u8, i16>(alloc, name, words),
@@ -23,7 +23,7 @@ pub fn answer(alloc: Global, owner: &str, name: &str, words: &[&str]) -> Result<
     }
 }
 
-/// The answers of the wide types, of those of the machine, and of `Integer`.
+/// Answers the calls of the types of 128 bits, of `isize`, `usize` and `Integer`.
 fn wide(alloc: Global, owner: &str, name: &str, words: &[&str]) -> Result<String, RowError> {
     match owner {
         "u128" => of_native::<u128, u128, i128>(alloc, name, words),
@@ -35,7 +35,7 @@ fn wide(alloc: Global, owner: &str, name: &str, words: &[&str]) -> Result<String
     }
 }
 
-/// The answers of a native type with its pairs.
+/// Answers the calls of a native type with its pairs.
 fn of_native<T, U, S>(alloc: Global, name: &str, words: &[&str]) -> Result<String, RowError>
 where
     T: IntegerType<UnsignedPair = U, SignedPair = S> + Drop,
@@ -48,7 +48,7 @@ where
     }
 }
 
-/// The answers of `Integer`.
+/// Answers the calls of `Integer`.
 fn of_integer(alloc: Global, name: &str, words: &[&str]) -> Result<String, RowError> {
     match words {
         [word] if name == "to_unsigned_bytes_be" => {
@@ -58,7 +58,7 @@ fn of_integer(alloc: Global, name: &str, words: &[&str]) -> Result<String, RowEr
     }
 }
 
-/// The answers of a type: of no word, of one, or of two.
+/// Answers the calls of a type: of no word, of one, or of two.
 fn of_type<T, U, S>(alloc: Global, name: &str, words: &[&str]) -> Result<String, RowError>
 where
     T: IntegerType<UnsignedPair = U, SignedPair = S> + Drop,
@@ -140,7 +140,7 @@ fn of_two<T: IntegerType + Drop>(
     }
 }
 
-/// The sum of a number with one of its unsigned pair; the signed pair is named alone.
+/// Returns the sum of a number and one of the type's unsigned pair. The signed pair is only named.
 fn add_pair<T, U, S>(alloc: Global, first: &str, second: &str) -> Result<String, RowError>
 where
     T: IntegerType<UnsignedPair = U, SignedPair = S> + Drop,
@@ -159,7 +159,7 @@ fn residue<T: IntegerType>(alloc: Global, value: &T) -> Result<String, RowError>
     hex_of(alloc, value.to_unsigned_bytes_be().as_ref())
 }
 
-/// The octets of an `Integer` without a sign.
+/// Returns the unsigned octets of an `Integer`.
 fn residue_of_integer(alloc: Global, number: &Integer) -> Result<String, RowError> {
     if *number < Integer::zero() {
         return Err(wrong(alloc, "the number", "number from 0 on"));
@@ -167,7 +167,7 @@ fn residue_of_integer(alloc: Global, number: &Integer) -> Result<String, RowErro
     hex_of(alloc, number.to_unsigned_bytes_be().as_ref())
 }
 
-/// The value of a type that a word encodes.
+/// Returns the value of a type that a word encodes.
 fn value<T: IntegerType>(alloc: Global, word: &str) -> Result<T, RowError> {
     let number = integer(alloc, word)?;
     match T::try_from_signed_bytes(alloc, number.signed_octets().as_ref()) {
@@ -180,7 +180,7 @@ fn value_text<T: IntegerType>(alloc: Global, value: T) -> Result<String, RowErro
     text_of(alloc, &value.to_integer(alloc)?)
 }
 
-/// The value as its text, or `none`.
+/// Returns the value as text, or `none`.
 fn text_or_none<T: IntegerType>(alloc: Global, value: Option<T>) -> Result<String, RowError> {
     match value {
         Some(value) => value_text(alloc, value),
@@ -188,7 +188,7 @@ fn text_or_none<T: IntegerType>(alloc: Global, value: Option<T>) -> Result<Strin
     }
 }
 
-/// The value as its text, or why none was read.
+/// Returns the value as text, or the error.
 fn read_text<T: IntegerType>(
     alloc: Global,
     value: Result<T, IntegerError>,

@@ -49,7 +49,7 @@ unfolding ceil_log2
 ceil_log2_is n w is =
     found n 0 n w is (omega arith) (let below = below_pow n in omega (arith, is.least n (omega arith)))
 
--- so many codes of a width
+-- the number of codes of a width
 pub codes_small : (w : ℕ) → w ≤ 32 → 1 * 2 ^ w % 18446744073709551616 ≡ 2 ^ w
 codes_small w narrow =
     let up : 2 ^ w ≤ 2 ^ 32 = pow_mono narrow in

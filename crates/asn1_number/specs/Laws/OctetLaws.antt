@@ -313,7 +313,7 @@ equal_from_octets m n a b s t e = sym s.value ∙ (ap signed e ∙ t.value)
 pub equal_octets : (m n : ℤ) (a b : List ℕ) → IsShortest m a → IsShortest n b → m ≡ n → a ≡ b
 equal_octets m n a b s t e = shortest_once n a b (subst (λ z. IsShortest z a) e s) t
 
--- ---- without a sign
+-- ---- unsigned
 
 pub unsigned-zero_first : (bs : List ℕ) → unsigned (0 ∷ bs) ≡ unsigned bs
 unsigned-zero_first bs = unsigned-cons 0 bs ∙ omega arith
@@ -355,7 +355,7 @@ unsigned_after_zero n (b ∷ c ∷ bs) rest s l z e =
     (subst (λ m. IsShortestUnsigned m (c ∷ bs)) same
     (shortest_unsigned_from_first (c ∷ bs) s.octets.1 (omega arith) (λ _ w. first w)))
 
--- with no such octet they are shortest without a sign too
+-- with no such octet they are the shortest unsigned octets too
 pub unsigned_as_it_is : (n : ℕ) (o : List ℕ) → IsShortest (pos n) o → (2 ≤ length o → get_or o 0 0 ≡ 0 → ⊥)
     → IsShortestUnsigned n o
 unsigned_as_it_is n [] s d = let some = s.some in absurd (omega arith)

@@ -148,7 +148,7 @@ unfolding signed_reading
 unbounded_law n [] s = let some = s.some in absurd (omega arith)
 unbounded_law n (b ∷ bs) s = ap Ok s.value
 
--- ---- `Integer` from octets without a sign
+-- ---- `Integer` from unsigned octets
 
 pub zero_in_front : (o : List ℕ) → IsOctets o → 0 < length o → 128 ≤ get_or o 0 0
     → IsShortest (pos (unsigned o)) (0 ∷ o)
@@ -203,7 +203,7 @@ past_u128 (b ∷ c ∷ bs) h d l z r = ⊎_elim low high (cases_lt b 128)
             mul-le-mul_right (256 ^ length (c ∷ bs)) k in
             omega (arith, most, low_parts b (c ∷ bs) i, unsigned-cons b (c ∷ bs))
 
--- seventeen octets that begin with zero encode what the other sixteen do without a sign
+-- seventeen octets that begin with zero encode what the other sixteen do as unsigned
 pub zero_then_sixteen : (o rest : List ℕ) → 0 < length o → get_or o 0 0 ≡ 0 → rest ≡ drop 1 o
     → signed o ≡ pos (unsigned rest)
 zero_then_sixteen [] rest l z e = absurd (omega arith)

@@ -207,7 +207,7 @@ more_value o k v x d h l few e a b =
     ap (λ z. to_z w128 (of_z w128 (z +ℤ to_z w128 (of_z w128 x)))) (to_z-of_z f) ∙
     (ap (λ z. to_z w128 (of_z w128 (v *ℤ pos 256 +ℤ z))) (to_z-of_z g) ∙ (to_z-of_z fs ∙ s))
 
--- ---- a running value without a sign
+-- ---- an unsigned running value
 
 pub unsigned_more : (o : List ℕ) (k : ℕ) → k < length o
     → unsigned (take (k + 1) o) ≡ unsigned (take k o) * 256 + get_or o k 0

@@ -1,4 +1,4 @@
--- Laws of encodings: fields have one, where no alphabet gives a character two codes.
+-- Laws of encodings: fields have one, if no alphabet has a character with two codes.
 use Rattle.std.proofs.Common.{◌≡◌, ℕ, List, [], ◌∷◌, ◌++◌, Bool, length, sym, ap, ◌∙◌}
 use Rattle.std.specs.Prelude.{ℤ}
 use Rattle.asn1_bits.specs.Bits.{digits, bits}

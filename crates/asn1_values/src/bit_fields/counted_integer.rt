@@ -52,7 +52,7 @@ pub(super) fn overwrite(target: &mut [u8], position: usize, number: &Integer) ->
     overwrite_shortest(target, next, number)
 }
 
-/// Reads a counted integer, and returns the octets after its first, if that is 1 to 127, and so
+/// Reads a counted integer, and returns the octets after its first, if that is 1 to 127, and as
 /// many octets are the shortest of a number.
 #[inline(always)]
 pub(super) fn take_value<'a>(

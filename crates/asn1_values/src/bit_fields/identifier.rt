@@ -26,8 +26,8 @@ pub(super) fn len_or_misfit(oid: &ObjectIdentifier, field: usize) -> Result<u128
     fitting_contents(oid, field)
 }
 
-/// The work of `len_or_misfit`. Not inlined, so that the result's stack slot is initialised only for
-/// identifiers.
+/// Does what `len_or_misfit` does. Not inlined, so that the result's stack slot is initialised only
+/// for identifiers.
 #[inline(never)]
 fn fitting_contents(oid: &ObjectIdentifier, field: usize) -> Result<u128, WriteError>
     ensures { Measures field (plain.Identifier oid.now) result }

@@ -54,7 +54,7 @@ pub(super) fn push_shortest(appender: &mut BitAppender<'_>, number: &Integer, tu
     }
 }
 
-/// The path of `push_shortest` for more than sixteen octets. Not inlined, since it is rare.
+/// Does what `push_shortest` does for more than sixteen octets. Not inlined, since it is rare.
 #[inline(never)]
 fn push_long(appender: &mut BitAppender<'_>, number: &Integer, turns: &mut Turns)
     requires { (octets : List ℕ) → IsShortest number.now octets → 8 * length octets

@@ -33,7 +33,7 @@ pub(super) fn len_or_misfit(value: u128, width: usize, field: usize) -> Result<u
     fitting_wide(value, width, field)
 }
 
-/// The path of `len_or_misfit` for any number.
+/// Does what `len_or_misfit` does for any number.
 #[inline(always)]
 fn fitting_wide(value: u128, width: usize, field: usize) -> Result<u128, WriteError>
     ensures { Measures field (plain.Number value width) result }

@@ -65,7 +65,7 @@ pub fn read_fields<'a, 's>(
     // If any fields begin them, the only error is `Memory`.
     ensures accepted { CanBegin (bits_left reader.old) (plain_shapes shapes.now)
         → IsOkUnless result ReadError.Memory }
-    // The fields' concatenation, which is one list where no alphabet gives a character two codes,
+    // The fields' concatenation, which is one list if no alphabet has a character with two codes,
     // is the front that was read.
     ensures front_read { GiveOneSpelling (plain_shapes shapes.now)
         → IfOk result (λ fields. (front : List Bool)
@@ -120,7 +120,7 @@ pub fn read_fields<'a, 's>(
 }
 
 /// Picks the error to report. If allocation failed, it examines the fields without memory, since
-/// a wrong field takes precedence over `Memory`.
+/// an invalid field takes precedence over `Memory`.
 #[cold]
 #[inline(never)]
 fn refusal_of(reader: BitReader<'_>, shapes: &[Shape<'_>], met: ReadError) -> ReadError
@@ -137,7 +137,7 @@ fn refusal_of(reader: BitReader<'_>, shapes: &[Shape<'_>], met: ReadError) -> Re
     }
 }
 
-/// Reads a field of each shape, and stops at the first that is wrong or that cannot be allocated.
+/// Reads a field of each shape, and stops at the first that is invalid or cannot be allocated.
 fn collect<'a, 's>(
     alloc: Global,
     reader: &mut BitReader<'a>,

@@ -5,7 +5,7 @@ ghost use Rattle.asn1_values.specs.Steps.{Cuts};
 use super::error::ReadError;
 use asn1_bits::BitReader;
 
-/// Takes the next `need` bits, if so many are left.
+/// Takes the next `need` bits, if as many are left.
 pub(super) fn take_bits<'a>(
     reader: &mut BitReader<'a>,
     need: u128,
@@ -26,7 +26,7 @@ pub(super) fn take_bits<'a>(
     Ok(BitReader::new(front))
 }
 
-/// `take_bits` for a width that the compiler knows to be short, as that of a number or a character.
+/// Does what `take_bits` does, for a width that the compiler knows to be short.
 pub(super) fn take_few<'a>(
     reader: &mut BitReader<'a>,
     width: usize,

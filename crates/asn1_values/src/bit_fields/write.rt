@@ -47,7 +47,7 @@ pub fn write_fields(buffer: &mut BitBuffer, fields: &[Field<'_, '_>]) -> Result<
     // The old bits are followed by a concatenation of the fields' encodings.
     ensures written { OnOk result ((list : List Bool) × AreSpelledBy (plain_fields fields.now) list
         × (buffer.new ≡ buffer.old ++ list)) }
-    // It is the one concatenation, where no alphabet gives a character two codes.
+    // It is the one concatenation, if no alphabet has a character with two codes.
     ensures one { HaveOneSpelling (plain_fields fields.now)
         → (list : List Bool) → AreSpelledBy (plain_fields fields.now) list
         → OnOk result (buffer.new ≡ buffer.old ++ list) }
@@ -174,7 +174,7 @@ fn append_end_if_all_fit(len: usize, fields: &[Field<'_, '_>]) -> Option<usize>
     Some(end)
 }
 
-/// Returns the end of so many bits after another end. `None` if it exceeds `usize::MAX`.
+/// Returns the end of `additional` bits after another end. `None` if it exceeds `usize::MAX`.
 #[inline(always)]
 pub(super) fn end_after(end: usize, additional: u128) -> Option<usize>
     ensures { MatchOption result (2 ^ 64 ≤ end + additional) (λ n. n ≡ end + additional) }
@@ -226,7 +226,7 @@ fn sum_of(one: u128, other: u128) -> u128
     }
 }
 
-/// Cold path of `sum_of`: the lengths of fields in memory never get there.
+/// Returns the sum for `sum_of`. Cold: the lengths of fields in memory never get there.
 #[cold]
 #[inline(never)]
 fn past_all_lengths(one: u128, other: u128) -> u128

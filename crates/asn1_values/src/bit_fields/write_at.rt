@@ -41,7 +41,7 @@ pub fn write_fields_at(
         (λ next. (list : List Bool) × AreSpelledBy (plain_fields fields.now) list
         × (bits octets.new ≡ overwritten (bits octets.old) position list)
         × (next ≡ position + length list)) }
-    // It is the one concatenation, where no alphabet gives a character two codes.
+    // It is the one concatenation, if no alphabet has a character with two codes.
     ensures one { HaveOneSpelling (plain_fields fields.now)
         → (list : List Bool) → AreSpelledBy (plain_fields fields.now) list
         → OnOk result (bits octets.new ≡ overwritten (bits octets.old) position list) }
@@ -98,7 +98,7 @@ fn overwrite_end_if_all_fit(position: usize, fields: &[Field<'_, '_>]) -> Option
     Some(end)
 }
 
-/// The path of `overwrite_end` for fields that do not fit, or that end far after.
+/// Does what `overwrite_end` does for fields that do not fit, or that end far after.
 #[cold]
 #[inline(never)]
 fn overwrite_end_or_misfit(position: usize, fields: &[Field<'_, '_>]) -> Result<u128, WriteError>

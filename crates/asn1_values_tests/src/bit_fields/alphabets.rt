@@ -1,4 +1,5 @@
-//! Alphabets by words: `Ia5/97,98`, `Numeric/all`, and the aligned ones after `!`, `Ia5!/97-116`.
+//! Alphabets by words, such as `Ia5/97,98` and `Numeric/all`; aligned ones have a `!`, as
+//! `Ia5!/97-116`.
 
 use crate::bit_fields::stores::{Store, stores_of};
 use crate::bit_fields::words::{append, push_number};
@@ -7,7 +8,7 @@ use asn1_values::{
 };
 use std::alloc::Global;
 
-/// The alphabet that a word names.
+/// Returns the alphabet that a word names.
 pub fn alphabet<'x>(word: &str, store: &'x Store) -> Option<CharacterAlphabet<'x>> {
     let (kind, set) = word.split_once('/')?;
     match kind {
@@ -34,7 +35,7 @@ fn make_alphabet<'x, S: StaticPermittedAlphabet>(
     Some(CharacterAlphabet::new::<S>(Some(characters), aligned))
 }
 
-/// The width of an alphabet's codes, and whether it repeats a character: `aIa5/97,98`.
+/// Appends the width of an alphabet's codes, and whether it repeats a character.
 pub fn answer(alloc: Global, text: &mut String, words: &[&str]) -> Option<()> {
     if let Some(stores) = stores_of(alloc, words)
         && let [word] = words

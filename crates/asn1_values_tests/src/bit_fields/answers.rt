@@ -1,10 +1,10 @@
-//! The calls by their names. A call that cannot be made of its words has no answer.
+//! Answers calls by their names. A call that its words do not make has no answer.
 
 use crate::bit_fields::{alphabets, callers, integers, reading, shapes, texts, writing};
 use asn1_test_rows::{Answers, RowError, answer_each, wrong};
 use std::alloc::Global;
 
-/// The calls, each by itself.
+/// Answers one call at a time.
 struct Calls;
 
 impl Answers for Calls {
@@ -17,12 +17,13 @@ impl Answers for Calls {
     }
 }
 
-/// The answer of a call, or, where one of its words is a range, its answers for each number there.
+/// Returns the answer to a call, or the answers for each number of a range, if one of its words is
+/// a range.
 pub fn answer(alloc: Global, call: &str, words: &[&str]) -> Result<String, RowError> {
     answer_each(alloc, &Calls, call, words)
 }
 
-/// The answer of a call.
+/// Appends the answer to a call.
 fn answer_once(alloc: Global, text: &mut String, call: &str, words: &[&str]) -> Option<()> {
     match call {
         "write_fields" => writing::write(alloc, text, words),
@@ -38,7 +39,7 @@ fn answer_once(alloc: Global, text: &mut String, call: &str, words: &[&str]) -> 
     }
 }
 
-/// The answer of another call.
+/// Appends the answer to another call.
 fn answer_other(alloc: Global, text: &mut String, call: &str, words: &[&str]) -> Option<()> {
     match call {
         "len_of_fields" => writing::len(alloc, text, words),

@@ -1,4 +1,4 @@
-//! Callers that are proved from the contracts of the two calls alone.
+//! Callers that are proved by the contracts of the two calls alone.
 
 ghost use Rattle.std.specs.Prelude.{◌≡◌, ◌≤◌, ◌++◌, length, IfSome, IsOk};
 ghost use Rattle.asn1_bits.specs.BitReader.{bits_left};
@@ -9,7 +9,7 @@ use crate::bit_fields::words::{buffer_of, octets_of, push_number, push_state};
 use asn1_values::{BitBuffer, BitReader, Shape, WriteError, read_fields, write_fields};
 use std::alloc::Global;
 
-/// What was read, written again: the front of what was there.
+/// Reads fields and writes them again. Returns what was written: the bits that were read.
 fn copies_the_front(
     alloc: Global,
     reader: &mut BitReader<'_>,
@@ -24,8 +24,8 @@ fn copies_the_front(
     Some(front)
 }
 
-/// `OCTETS`: how many bits are left after a number of four bits and an octet, and what is written
-/// again.
+/// Answers `OCTETS`: how many bits are left after a number of four bits and an octet, and these
+/// fields, written again.
 pub fn front(alloc: Global, text: &mut String, words: &[&str]) -> Option<()> {
     if let [octets] = words
         && let Some(octets) = octets_of(alloc, octets)
@@ -49,7 +49,7 @@ fn tell_front(alloc: Global, text: &mut String, octets: &[u8]) -> Option<()>
     None
 }
 
-/// No fields, which take no memory.
+/// Writes no fields, which allocates nothing.
 fn writes_nothing(buffer: &mut BitBuffer) -> Result<(), WriteError>
     ensures fine { IsOk result }
     ensures same { buffer.new ≡ buffer.old }
@@ -58,7 +58,7 @@ fn writes_nothing(buffer: &mut BitBuffer) -> Result<(), WriteError>
     write_fields(buffer, &[])
 }
 
-/// `BITS`: a buffer of the bits after it.
+/// Answers `BITS`: a buffer of the bits after `writes_nothing`.
 pub fn nothing(alloc: Global, text: &mut String, words: &[&str]) -> Option<()> {
     if let [bits] = words
         && let Some(mut buffer) = buffer_of(alloc, bits)

@@ -1,6 +1,6 @@
-//! Fields by words: `n3=5` a number of three bits, `o=A55A` octets, `b=5A:3:5` five bits from bit 3
-//! on, `i=0080` an integer by its octets, `c=05` a counted one, `d=2.999.3` an identifier, `D=2A05`
-//! one by its contents, `aIa5/97,98=98` a character.
+//! Fields by words: `n3=5` is a number of three bits, `o=A55A` octets, `b=5A:3:5` five bits from
+//! bit 3 on, `i=0080` an integer by its octets, `c=05` a counted integer, `d=2.999.3` an
+//! identifier, `D=2A05` an identifier by its contents, `aIa5/97,98=98` a character.
 
 use crate::bit_fields::alphabets::alphabet;
 use crate::bit_fields::stores::Store;
@@ -8,7 +8,7 @@ use crate::bit_fields::words::{octets_of, size, wide};
 use asn1_values::{BitStr, Field, Integer, ObjectIdentifier, Octets};
 use std::alloc::Global;
 
-/// The fields that the words encode, over their stores.
+/// Returns the fields that the words encode, over their stores.
 pub fn fields_of<'x>(
     alloc: Global,
     words: &[&str],
@@ -21,7 +21,7 @@ pub fn fields_of<'x>(
     Some(fields)
 }
 
-/// The field that a word encodes.
+/// Returns the field that a word encodes.
 fn field<'x>(alloc: Global, word: &str, store: &'x Store) -> Option<Field<'x, 'x>> {
     match word.split_once('=') {
         Some((shape, value)) => field_of(alloc, shape, value, store),
@@ -29,7 +29,7 @@ fn field<'x>(alloc: Global, word: &str, store: &'x Store) -> Option<Field<'x, 'x
     }
 }
 
-/// The field of a shape and a value.
+/// Returns the field of a shape and a value.
 fn field_of<'x>(
     alloc: Global,
     shape: &str,
@@ -47,7 +47,7 @@ fn field_of<'x>(
     }
 }
 
-/// A number or a character.
+/// Returns a number or a character.
 fn other<'x>(shape: &str, value: &str, store: &'x Store) -> Option<Field<'x, 'x>> {
     match shape.strip_prefix('n') {
         Some(width) => number(value, width),
@@ -77,7 +77,7 @@ fn character<'x>(shape: &str, value: &str, store: &'x Store) -> Option<Field<'x,
     None
 }
 
-/// Bits of the store, as `5A:3:5`.
+/// Returns bits of the store, such as `5A:3:5`.
 fn bits<'x>(value: &str, store: &'x Store) -> Option<Field<'x, 'x>> {
     if let Some((_, place)) = value.split_once(':')
         && let Some((first, len)) = place.split_once(':')
@@ -90,7 +90,7 @@ fn bits<'x>(value: &str, store: &'x Store) -> Option<Field<'x, 'x>> {
     None
 }
 
-/// The integer of two's complement octets.
+/// Returns the integer of two's complement octets.
 pub fn integer(alloc: Global, value: &str) -> Option<Integer> {
     match octets_of(alloc, value) {
         Some(octets) => Integer::from_signed_octets(alloc, octets.as_slice()).ok(),
@@ -98,7 +98,7 @@ pub fn integer(alloc: Global, value: &str) -> Option<Integer> {
     }
 }
 
-/// The identifier of arcs that full stops join.
+/// Returns the identifier of arcs that full stops join.
 fn identifier(alloc: Global, value: &str) -> Option<ObjectIdentifier> {
     ObjectIdentifier::from_vec(arcs(alloc, value)?)
 }
@@ -111,7 +111,7 @@ fn arcs(alloc: Global, value: &str) -> Option<Vec<u32>> {
     Some(arcs)
 }
 
-/// The identifier of these contents.
+/// Returns the identifier of these contents.
 fn contents(alloc: Global, value: &str) -> Option<ObjectIdentifier> {
     match octets_of(alloc, value) {
         Some(octets) => ObjectIdentifier::from_contents(alloc, &octets.as_slice()).ok(),

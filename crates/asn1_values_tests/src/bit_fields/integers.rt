@@ -8,13 +8,13 @@ use asn1_values::{
 use std::alloc::Global;
 use std::mem::size_of;
 
-/// How many octets a field and a shape take.
+/// Appends how many octets a field and a shape take.
 pub fn sizes(alloc: Global, text: &mut String) -> Option<()> {
     push_number(alloc, text, size_of::<Field<'_, '_>>() as u128)?;
     push_number(alloc, text, size_of::<Shape<'_>>() as u128)
 }
 
-/// How the integers of two lists of octets compare.
+/// Appends how the integers of two lists of octets compare.
 pub fn cmp(alloc: Global, text: &mut String, words: &[&str]) -> Option<()> {
     if let [one, other] = words
         && let Some(one) = integer(alloc, one)
@@ -32,7 +32,7 @@ fn order_of(one: &Integer, other: &Integer) -> &'static str {
     if *one < *other { "less" } else { "greater" }
 }
 
-/// The octets without redundant sign octets.
+/// Appends the octets without redundant sign octets.
 pub fn without(alloc: Global, text: &mut String, words: &[&str]) -> Option<()> {
     if let [octets] = words
         && let Some(octets) = octets_of(alloc, octets)
@@ -43,7 +43,7 @@ pub fn without(alloc: Global, text: &mut String, words: &[&str]) -> Option<()> {
     None
 }
 
-/// The shortest octets of the integer of octets.
+/// Appends the shortest octets of the integer of octets.
 pub fn shortest(alloc: Global, text: &mut String, words: &[&str]) -> Option<()> {
     if let [octets] = words
         && let Some(number) = integer(alloc, octets)
@@ -53,8 +53,8 @@ pub fn shortest(alloc: Global, text: &mut String, words: &[&str]) -> Option<()> 
     None
 }
 
-/// How many integers of one octet, and of two octets, are read as the number that the octets are in
-/// two's complement, and how many are rejected because one octet would do.
+/// Appends how many integers of one octet, and of two octets, are decoded as their number in two's
+/// complement, and how many are rejected because one octet would suffice.
 pub fn of_two_octets(alloc: Global, text: &mut String) -> Option<()> {
     let (mut single, mut double, mut refused) = (0u128, 0u128, 0u128);
     for first in 0..=255u8 {
@@ -68,7 +68,8 @@ pub fn of_two_octets(alloc: Global, text: &mut String) -> Option<()> {
     push_number(alloc, text, refused)
 }
 
-/// How many integers of two octets, the first of them this one, are read, and how many rejected.
+/// Returns how many integers of two octets that begin with this octet are decoded, and how many
+/// rejected.
 fn count_behind(alloc: Global, first: u8) -> (u128, u128) {
     let (mut right, mut refused) = (0u128, 0u128);
     for second in 0..=255u8 {
@@ -82,7 +83,7 @@ fn count_behind(alloc: Global, first: u8) -> (u128, u128) {
     (right, refused)
 }
 
-/// What is read of an integer of all the octets.
+/// Reads an integer of all the octets.
 fn read(alloc: Global, octets: &[u8]) -> Result<Vec<Field<'_, 'static>>, ReadError> {
     if octets.len() > 2 {
         return Err(ReadError::Memory);
@@ -93,12 +94,12 @@ fn read(alloc: Global, octets: &[u8]) -> Result<Vec<Field<'_, 'static>>, ReadErr
     read_fields(alloc, &mut BitReader::from_octets(octets), &shapes)
 }
 
-/// Whether no shortest integer is read of the octets.
+/// Returns whether the octets are rejected because they are not the shortest.
 fn is_refused(alloc: Global, octets: &[u8]) -> bool {
     read(alloc, octets).err() == Some(ReadError::Integer { field: 0 })
 }
 
-/// Whether the number of the octets is read.
+/// Returns whether the octets are read as their number.
 fn is_right(alloc: Global, octets: &[u8]) -> bool {
     match read(alloc, octets) {
         Ok(fields) => is_number(fields.as_slice(), octets),
@@ -116,7 +117,7 @@ fn is_number(fields: &[Field<'_, '_>], octets: &[u8]) -> bool {
     }
 }
 
-/// The number of one octet or two, in two's complement.
+/// Returns the number of one octet or two, in two's complement.
 fn value_of(octets: &[u8]) -> Integer {
     match octets {
         [only] => Integer::from(i8::from_be_bytes([*only])),

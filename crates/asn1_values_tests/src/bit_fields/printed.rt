@@ -1,6 +1,6 @@
-//! Fields that were read, as words: as the fields of a row, but `o&=A5` for octets that are lent,
-//! `b3=01011` for bits from bit 3 of an octet on, and `a1/1=98` for the character of code 1 in an
-//! alphabet of one bit, `a1=97` where the alphabet repeats a character.
+//! Fields that were read, as words: as the fields of a row, but `o&=A5` for borrowed octets,
+//! `b3=01011` for bits from bit 3 of an octet on, `a1/1=98` for the character of code 1 in an
+//! alphabet of one bit, and `a1=97` if the alphabet repeats a character.
 
 use crate::bit_fields::words::{append, push_labelled};
 use asn1_values::{BitStr, CharacterAlphabet, Field, Octets, PermittedAlphabetError};

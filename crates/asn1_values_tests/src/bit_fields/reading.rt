@@ -9,7 +9,7 @@ use crate::bit_fields::writing::put;
 use asn1_values::{BitBuffer, BitReader, BitStr, Field, ReadError, Shape, read_fields};
 use std::alloc::Global;
 
-/// `OCTETS FIRST LEN SHAPE ..`: the fields or the error, and how many bits are left.
+/// Answers `OCTETS FIRST LEN SHAPE ..`: the fields or the error, and how many bits are left.
 pub fn read(alloc: Global, text: &mut String, words: &[&str]) -> Option<()> {
     if let [octets, first, len, shapes @ ..] = words
         && let Some(part) = part_from(alloc, octets, first, len)
@@ -47,7 +47,7 @@ fn tell(alloc: Global, text: &mut String, view: BitStr<'_>, shapes: &[Shape<'_>]
     push_number(alloc, text, reader.len() as u128)
 }
 
-/// Whether the reader has all bits of the view.
+/// Returns whether the reader has all bits of the view.
 fn is_back(reader: &BitReader<'_>, view: BitStr<'_>) -> bool {
     reader.bits() == view
 }
@@ -61,7 +61,8 @@ fn get<'a, 's>(
     read_fields(alloc, reader, shapes)
 }
 
-/// `BITS FIELD .. ; SHAPE ..`: the fields are written after the bits, and read from there on.
+/// Answers `BITS FIELD .. ; SHAPE ..`: writes the fields after the bits, and reads them from there
+/// on.
 pub fn again(alloc: Global, text: &mut String, words: &[&str]) -> Option<()> {
     if let [front, rest @ ..] = words
         && let Some(at) = rest.iter().position(|word| *word == ";")

@@ -7,7 +7,7 @@ use crate::bit_fields::words::{append, push_number, size};
 use asn1_values::{Field, Shape, shape_of};
 use std::alloc::Global;
 
-/// The shapes that the words encode, over their stores.
+/// Returns the shapes that the words encode, over their stores.
 pub fn shapes_of<'x>(alloc: Global, words: &[&str], stores: &'x [Store]) -> Option<Vec<Shape<'x>>> {
     let mut shapes = Vec::new(alloc);
     for (word, store) in words.iter().zip(stores) {
@@ -16,7 +16,7 @@ pub fn shapes_of<'x>(alloc: Global, words: &[&str], stores: &'x [Store]) -> Opti
     Some(shapes)
 }
 
-/// The shape that a word encodes.
+/// Returns the shape that a word encodes.
 fn shape<'x>(word: &str, store: &'x Store) -> Option<Shape<'x>> {
     if word == "c" {
         return Some(Shape::CountedInteger);
@@ -43,7 +43,7 @@ fn counted<'x>(word: &str) -> Option<Shape<'x>> {
     None
 }
 
-/// The shape of a letter and a number.
+/// Returns the shape of a letter and a number.
 fn shape_of_letter<'x>(kind: &str, count: usize) -> Option<Shape<'x>> {
     match kind {
         "n" => Some(Shape::Number { width: count }),
@@ -55,7 +55,7 @@ fn shape_of_letter<'x>(kind: &str, count: usize) -> Option<Shape<'x>> {
     }
 }
 
-/// The shapes of fields.
+/// Appends the shapes of fields.
 pub fn answer(alloc: Global, text: &mut String, words: &[&str]) -> Option<()> {
     if let Some(stores) = stores_of(alloc, words)
         && let Some(fields) = fields_of(alloc, words, stores.as_slice())
@@ -72,7 +72,7 @@ fn tell_each(alloc: Global, text: &mut String, fields: &[Field<'_, '_>]) -> Opti
     Some(())
 }
 
-/// The shape of a field that is no identifier.
+/// Returns the shape of a field that is no identifier.
 fn own_shape<'s>(field: &Field<'_, 's>) -> Option<Shape<'s>> {
     match field {
         Field::Number { .. } => Some(shape_of(field)),

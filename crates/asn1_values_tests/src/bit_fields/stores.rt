@@ -10,7 +10,7 @@ pub struct Store {
     pub set: Vec<u32>,
 }
 
-/// What each of the words encodes.
+/// Returns what each of the words encodes.
 pub fn stores_of(alloc: Global, words: &[&str]) -> Option<Vec<Store>> {
     let mut stores = Vec::new(alloc);
     for word in words {
@@ -19,7 +19,7 @@ pub fn stores_of(alloc: Global, words: &[&str]) -> Option<Vec<Store>> {
     Some(stores)
 }
 
-/// What a word encodes: the octets after `o=` or `b=`, the set of an alphabet after `a`.
+/// Returns what a word encodes: the octets after `o=` or `b=`, the set of an alphabet after `a`.
 fn store_of(alloc: Global, word: &str) -> Option<Store> {
     if let Some(set) = set_of(alloc, word)
         && let Some(octets) = octets_in(alloc, word)
@@ -29,7 +29,7 @@ fn store_of(alloc: Global, word: &str) -> Option<Store> {
     None
 }
 
-/// The octets of a word for octets or bits; none in another word.
+/// Returns the octets of a word for octets or bits, and none for another word.
 fn octets_in(alloc: Global, word: &str) -> Option<Vec<u8>> {
     match word.split_once('=') {
         Some(("o" | "b", value)) => {
@@ -40,7 +40,8 @@ fn octets_in(alloc: Global, word: &str) -> Option<Vec<u8>> {
     }
 }
 
-/// The set of a word for a character, as `aIa5/97,98` or `aBmp/256-320`; none in another word.
+/// Returns the set of a word for a character, such as `aIa5/97,98` or `aBmp/256-320`, and none for
+/// another word.
 fn set_of(alloc: Global, word: &str) -> Option<Vec<u32>> {
     let (shape, _) = word.split_once('=').unwrap_or((word, ""));
     match shape.split_once('/') {
@@ -49,7 +50,7 @@ fn set_of(alloc: Global, word: &str) -> Option<Vec<u32>> {
     }
 }
 
-/// The characters of a set: a range, which may fall, or a list.
+/// Returns the characters of a set: a range, which may descend, or a list.
 fn characters(alloc: Global, set: &str) -> Option<Vec<u32>> {
     match set.split_once('-') {
         Some((first, last)) => range(alloc, first.parse().ok()?, last.parse().ok()?),

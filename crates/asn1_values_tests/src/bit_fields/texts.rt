@@ -4,7 +4,7 @@ use crate::bit_fields::words::{push_shown, size};
 use asn1_values::{ReadError, WriteError};
 use std::alloc::Global;
 
-/// `NAME NUMBER ..`: the text of an error to write.
+/// Answers `NAME NUMBER ..`: the text of an error to write.
 pub fn writing(alloc: Global, text: &mut String, words: &[&str]) -> Option<()> {
     push_shown(alloc, text, write_error(words)?)
 }
@@ -42,7 +42,7 @@ fn write_error_of(name: &str, field: usize, number: &str) -> Option<WriteError> 
     }
 }
 
-/// `NAME NUMBER ..`: the text of an error to read.
+/// Answers `NAME NUMBER ..`: the text of an error to read.
 pub fn reading(alloc: Global, text: &mut String, words: &[&str]) -> Option<()> {
     push_shown(alloc, text, read_error(words)?)
 }

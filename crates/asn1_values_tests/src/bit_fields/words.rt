@@ -1,4 +1,5 @@
-//! The words of rows on fields. What cannot be read of a word, or when out of memory, is none.
+//! The words of rows on fields. A word that cannot be read is `None`, and so is every word if out
+//! of memory.
 
 use asn1_test_rows::hex_of;
 pub use asn1_test_rows::words_or_none::{
@@ -10,7 +11,7 @@ use std::alloc::Global;
 /// More bits than any row has.
 pub const MANY: usize = 200_000;
 
-/// Octets, and which of their bits a view is to show.
+/// Octets, and which of their bits a view has.
 #[derive(Drop)]
 pub struct Part {
     pub octets: Vec<u8>,
@@ -19,13 +20,13 @@ pub struct Part {
 }
 
 impl Part {
-    /// The view that shows it, where it lies within its octets.
+    /// Returns the view, if its bits are in the octets.
     pub fn view(&self) -> Option<BitStr<'_>> {
         BitStr::new(self.octets.as_slice(), self.first, self.len)
     }
 }
 
-/// The part that three words encode: octets, the first bit, and how many bits.
+/// Returns the part that three words encode: octets, the first bit, and how many bits.
 pub fn part_from(alloc: Global, octets: &str, first: &str, len: &str) -> Option<Part> {
     if let Some(first) = size(first)
         && let Some(len) = size(len)
@@ -49,7 +50,7 @@ pub fn push_state(alloc: Global, text: &mut String, buffer: &BitBuffer) -> Optio
     push_octets(alloc, text, buffer.as_bytes())
 }
 
-/// A buffer of the bits that a word encodes by `0` and `1`, `-` for none.
+/// Returns a buffer of the bits that a word has as `0` and `1`; `-` is no bits.
 pub fn buffer_of(alloc: Global, word: &str) -> Option<BitBuffer> {
     let mut buffer = BitBuffer::new(alloc);
     for digit in word.as_bytes() {

@@ -10,8 +10,8 @@ use asn1_values::{
 };
 use std::alloc::Global;
 
-/// `BITS FIELD .. ; FIELD ..`: groups of fields are written after the bits, one after another. For
-/// each the error, if it is rejected, then how many bits the buffer has, and its octets.
+/// Answers `BITS FIELD .. ; FIELD ..`: writes groups of fields after the bits, one after another.
+/// The answer for each is the error, if any, then how many bits the buffer has, and its octets.
 pub fn write(alloc: Global, text: &mut String, words: &[&str]) -> Option<()> {
     let (front, rest) = words.split_first()?;
     let mut buffer = buffer_of(alloc, front)?;
@@ -49,7 +49,7 @@ pub fn put(buffer: &mut BitBuffer, fields: &[Field<'_, '_>]) -> Result<(), Write
     write_fields(buffer, fields)
 }
 
-/// `FIELD ..`: how many bits the fields have.
+/// Answers `FIELD ..`: how many bits the fields have.
 pub fn len(alloc: Global, text: &mut String, words: &[&str]) -> Option<()> {
     if let Some(stores) = stores_of(alloc, words)
         && let Some(fields) = fields_of(alloc, words, stores.as_slice())
@@ -66,7 +66,7 @@ fn len_of(alloc: Global, fields: &[Field<'_, '_>]) -> Option<u128> {
     Some(buffer.len() as u128)
 }
 
-/// `BITS FIELD ..`, by the call that counts.
+/// Answers `BITS FIELD ..` by the counted call.
 pub fn write_counted(alloc: Global, text: &mut String, words: &[&str]) -> Option<()> {
     if let [front, rest @ ..] = words
         && let Some(mut buffer) = buffer_of(alloc, front)
@@ -83,7 +83,7 @@ fn put_counted(buffer: &mut BitBuffer, fields: &[Field<'_, '_>]) -> Result<(), W
     write_fields_counted(buffer, fields, &mut Turns::new())
 }
 
-/// `OCTETS POSITION FIELD ..`: the bit after the fields or the error, and the octets.
+/// Answers `OCTETS POSITION FIELD ..`: the bit after the fields or the error, and the octets.
 pub fn write_at(alloc: Global, text: &mut String, words: &[&str]) -> Option<()> {
     if let [octets, position, rest @ ..] = words
         && let Some(octets) = octets_of(alloc, octets)

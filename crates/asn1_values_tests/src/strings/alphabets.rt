@@ -13,8 +13,8 @@ use asn1_test_rows::{RowError, outcome, parse_word, show_value, wrong};
 use std::alloc::Global;
 use std::mem::size_of;
 
-/// The answers of alphabets: of none, of a width and a list, or of a string, its variant, a list
-/// (`base` for the base set), and a character or code where the call takes one.
+/// Answers the calls on alphabets: without words; of a width and a list; or of a string, its
+/// variant, a list (`base` for the base set), and a character or code if the call takes one.
 pub fn answer(alloc: Global, name: &str, words: &[&str]) -> Result<String, RowError> {
     match words {
         [] => show_value(alloc, size_of::<CharacterAlphabet<'_>>()),
@@ -84,7 +84,7 @@ fn of_alphabet(
     }
 }
 
-/// The answers for a character or a code, or for all characters below a limit.
+/// Answers the calls on a character or a code, or on all characters below a limit.
 fn of_number(
     alloc: Global,
     name: &str,
@@ -116,8 +116,8 @@ fn count_and_list(
     alphabet.encode_counted(character, &mut probes)
 }
 
-/// Whether the alphabet has a code for each character of the list, its place or itself, and none
-/// for others below the limit.
+/// Returns whether the alphabet has a code for each character of the list, its index or itself, and
+/// no code for others below the limit.
 fn has_these_alone(
     alphabet: &CharacterAlphabet<'_>,
     set: &[u32],

@@ -7,7 +7,8 @@ use asn1_test_rows::{RowError, octets, parse_word, wrong};
 use std::alloc::Global;
 use std::collections::BTreeMap;
 
-/// The answers on the first bits of octets: their octets, their number, and what the call takes.
+/// Answers the calls on the first bits of octets: of the octets, the number of bits, and what the
+/// call takes.
 pub fn answer<S: StaticPermittedAlphabet>(
     alloc: Global,
     name: &str,
@@ -74,7 +75,7 @@ fn by_value<S: StaticPermittedAlphabet>(
     string_text(alloc, S::try_from_bits(alloc, bits, width))
 }
 
-/// What the bits encode by the indices of the base set.
+/// Returns the string that the bits encode by the indices of the base set.
 fn by_places<S: StaticPermittedAlphabet>(
     alloc: Global,
     bits: BitStr<'_>,
@@ -82,7 +83,7 @@ fn by_places<S: StaticPermittedAlphabet>(
     string_text(alloc, S::try_from_permitted_alphabet(alloc, bits, None))
 }
 
-/// What the bits encode by a map, whose entries are words as `0:65`.
+/// Returns the string that the bits encode by a map, whose entries are words such as `0:65`.
 fn by_map<S: StaticPermittedAlphabet>(
     alloc: Global,
     bits: BitStr<'_>,

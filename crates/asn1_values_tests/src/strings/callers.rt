@@ -1,5 +1,4 @@
-//! Callers that are proved from the contracts alone: none of their proofs names a lemma of the
-//! library.
+//! Callers that are proved by the contracts alone: no proof of theirs cites a lemma of the library.
 
 ghost use Rattle.std.specs.Prelude.{◌≡◌, ◌≢◌, [], IfOk, IfSome, OnErr};
 
@@ -8,7 +7,7 @@ use asn1_strings::{Ia5String, NumericString, StaticPermittedAlphabet};
 use asn1_test_rows::{RowError, hex_of, octets, one, optional, parse_word, wrong};
 use std::alloc::{AllocError, Global};
 
-/// The answers of the callers.
+/// Answers the calls of these callers.
 pub fn answer(alloc: Global, name: &str, words: &[&str]) -> Result<String, RowError> {
     let word = one(alloc, words)?;
     match name {
@@ -37,7 +36,7 @@ fn read_by_places(alloc: Global, character: u32) -> Result<String, RowError> {
     optional(alloc, read_again(&alphabet, character))
 }
 
-/// A copy, and no memory for an empty string.
+/// Returns a copy, which allocates nothing for an empty string.
 fn copy_string(string: &Ia5String) -> Result<Ia5String, AllocError>
     ensures same { IfOk result (λ copy. copy ≡ string.now) }
     ensures memory { OnErr result (string.now ≢ []) }

@@ -1,4 +1,4 @@
-//! What all strings have beside the calls of the trait, on strings that are made character by
+//! What all strings have beside the calls of the trait, on strings that are built character by
 //! character.
 
 use crate::strings::lists::{count_and_list, list};
@@ -8,7 +8,7 @@ use asn1_test_rows::{RowError, show_value, wrong};
 use std::alloc::Global;
 use std::collections::HashSet;
 
-/// The answers on one string.
+/// Answers the calls on one string.
 pub fn of_one<K: StringKind>(alloc: Global, name: &str, word: &str) -> Result<String, RowError> {
     let string: RestrictedString<K> = string_of_word(alloc, word)?;
     match name {
@@ -23,7 +23,7 @@ pub fn of_one<K: StringKind>(alloc: Global, name: &str, word: &str) -> Result<St
     }
 }
 
-/// The answers on two strings.
+/// Answers the calls on two strings.
 pub fn of_two<K: StringKind>(
     alloc: Global,
     name: &str,
@@ -41,7 +41,7 @@ pub fn of_two<K: StringKind>(
     }
 }
 
-/// The string of the characters that a word encodes.
+/// Returns the string of the characters that a word encodes.
 fn string_of_word<K: StringKind>(
     alloc: Global,
     word: &str,
@@ -49,7 +49,7 @@ fn string_of_word<K: StringKind>(
     push_characters(alloc, list(alloc, word)?.as_slice())
 }
 
-/// Whether the copy of the first string equals the second.
+/// Returns whether the copy of the first string equals the second.
 fn is_copied<K: StringKind>(
     alloc: Global,
     first: &RestrictedString<K>,
@@ -58,7 +58,7 @@ fn is_copied<K: StringKind>(
     show_value(alloc, first.clone()? == *second)
 }
 
-/// The string of these characters, made one by one; those outside its set are left out.
+/// Returns the string of these characters, without those outside its set.
 fn push_characters<S: StaticPermittedAlphabet + Drop>(
     alloc: Global,
     numbers: &[u32],
@@ -73,7 +73,7 @@ fn push_characters<S: StaticPermittedAlphabet + Drop>(
     Ok(string)
 }
 
-/// The units, as the characters that they keep.
+/// Returns the characters of the units.
 fn units<T: CodeUnit>(alloc: Global, units: &[T]) -> Result<String, RowError> {
     let mut numbers = Vec::new(alloc);
     for unit in units {
@@ -82,7 +82,7 @@ fn units<T: CodeUnit>(alloc: Global, units: &[T]) -> Result<String, RowError> {
     count_and_list(alloc, units.len(), numbers.as_slice())
 }
 
-/// How many characters a copy of the iterator has left, and each from the back.
+/// Returns how many characters a copy of the iterator has left, and each of them, from the back.
 fn from_the_back<K: StringKind>(
     alloc: Global,
     string: &RestrictedString<K>,
@@ -101,7 +101,7 @@ fn copy_string<K: StringKind>(
     characters(alloc, &string.clone()?)
 }
 
-/// Whether there is room for 1,000 characters, and for no more than 2,000.
+/// Returns whether the capacity is 1,000 to 2,000 characters.
 fn reserve_room<K: StringKind>(
     alloc: Global,
     mut string: RestrictedString<K>,
@@ -112,7 +112,7 @@ fn reserve_room<K: StringKind>(
     show_value(alloc, units.is_empty() && room >= 1000 && room <= 2000)
 }
 
-/// Whether a set that has the first string has the second.
+/// Returns whether a set with the first string has the second.
 fn is_found<K: StringKind>(
     alloc: Global,
     first: RestrictedString<K>,

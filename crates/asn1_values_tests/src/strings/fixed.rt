@@ -7,7 +7,7 @@ use asn1_strings::{FixedOctetString, OctetString};
 use asn1_test_rows::{RowError, hex_of, octets, show_value, two, wrong};
 use std::alloc::Global;
 
-/// The answers of octet strings of a fixed length: of the length, and of octets.
+/// Answers the calls on octet strings of a fixed length: of the length, and of octets.
 pub fn answer(alloc: Global, name: &str, words: &[&str]) -> Result<String, RowError> {
     let (length, word) = two(alloc, words)?;
     let octets = octets(alloc, word)?;
@@ -44,7 +44,8 @@ fn octets_or_none(alloc: Global, string: Option<FixedOctetString<4>>) -> Result<
     }
 }
 
-/// The octets of the string, or those of the vector that comes back.
+/// Returns the octets of the string of four octets, or those of the vector that is returned as the
+/// error.
 fn four_of_vector(alloc: Global, octets: Vec<u8>) -> Result<String, RowError> {
     match FixedOctetString::<4>::try_from_vec(octets) {
         Ok(string) => hex_of(alloc, string.as_slice()),
@@ -52,7 +53,7 @@ fn four_of_vector(alloc: Global, octets: Vec<u8>) -> Result<String, RowError> {
     }
 }
 
-/// The same of three octets.
+/// Returns the same for three octets.
 fn three_of_vector(alloc: Global, octets: Vec<u8>) -> Result<String, RowError> {
     match FixedOctetString::<3>::try_from_vec(octets) {
         Ok(string) => hex_of(alloc, string.as_slice()),
@@ -65,7 +66,7 @@ fn four_of_string(alloc: Global, octets: &[u8]) -> Result<String, RowError> {
     octets_or_none(alloc, FixedOctetString::try_from_octet_string(&string))
 }
 
-/// The octets of a string of five, if there are so many.
+/// Returns the octets of a string of five octets, or `none` if there are not five.
 fn five_of_string(alloc: Global, octets: &[u8]) -> Result<String, RowError> {
     let string = OctetString::from_slice(alloc, octets)?;
     match FixedOctetString::<5>::try_from_octet_string(&string) {
@@ -79,7 +80,7 @@ fn came_back(alloc: Global, octets: &[u8]) -> Result<String, RowError> {
     Ok(format!(in alloc; "back {octets}")?)
 }
 
-/// The array of four octets.
+/// Returns the array of four octets.
 fn four(alloc: Global, octets: &[u8]) -> Result<[u8; 4], RowError> {
     match octets {
         [first, second, third, fourth] => Ok([*first, *second, *third, *fourth]),
@@ -99,7 +100,7 @@ fn convert_octets(alloc: Global, octets: &[u8]) -> Result<String, RowError> {
     hex_of(alloc, string.as_slice())
 }
 
-/// The octets of the string, lent and as an array.
+/// Returns the octets of the string, borrowed and as an array.
 fn convert_slice(alloc: Global, octets: &[u8]) -> Result<String, RowError> {
     let Ok(string) = FixedOctetString::<4>::try_from(octets) else {
         return show_value(alloc, "another length");
@@ -114,20 +115,21 @@ fn default_text(alloc: Global) -> Result<String, RowError> {
     hex_of(alloc, zeros.as_slice())
 }
 
-/// Whether the string of zeros is below the one of these octets.
+/// Returns whether the string of zeros is less than that of these octets.
 fn above_default(alloc: Global, octets: &[u8]) -> Result<String, RowError> {
     let zeros: FixedOctetString<4> = FixedOctetString::default();
     show_value(alloc, zeros < FixedOctetString::new(four(alloc, octets)?))
 }
 
-/// Writes through the array that the string lends; the clause says that the string ends with it.
+/// Writes through the string's mutable array. The clause says that the string then has these
+/// octets.
 fn overwrite(string: &mut FixedOctetString<2>)
     ensures { string.new.octets ≡ 7 ∷ 8 ∷ [] }
 {
     **string = [7, 8];
 }
 
-/// The octets that were written over others, and whether the string equals the one of them.
+/// Returns whether octets that were written over others are those of the string.
 fn overwrite_octets(alloc: Global) -> Result<String, RowError> {
     let mut string: FixedOctetString<2> = FixedOctetString::new([1, 2]);
     overwrite(&mut string);

@@ -1,4 +1,4 @@
-//! The calls that some strings alone have: their octets, and what becomes of them.
+//! The calls that only some strings have: octets and conversions.
 
 use asn1_strings::{
     AsText, BmpString, General, Graphic, HasAsBytes, HasFromBytes, Ia5, IsIso646, Numeric,
@@ -8,7 +8,7 @@ use asn1_strings::{
 use asn1_test_rows::{RowError, hex_of, octets, show_value, two, wrong};
 use std::alloc::Global;
 
-/// The answers of a call on the string of a name and of octets.
+/// Answers a call on a string by its name and octets.
 pub fn answer(alloc: Global, name: &str, words: &[&str]) -> Result<String, RowError> {
     let (kind, word) = two(alloc, words)?;
     let octets = octets(alloc, word)?;
@@ -28,7 +28,7 @@ pub fn answer(alloc: Global, name: &str, words: &[&str]) -> Result<String, RowEr
     }
 }
 
-/// The octets of a string by `from_bytes` and `as_bytes`.
+/// Returns the octets of a string by `from_bytes` and `as_bytes`.
 fn of_octets<K: HasFromBytes + HasAsBytes>(
     alloc: Global,
     octets: &[u8],
@@ -39,7 +39,7 @@ fn of_octets<K: HasFromBytes + HasAsBytes>(
     }
 }
 
-/// The octets of a string by `to_bytes`.
+/// Returns the octets of a string by `to_bytes`.
 fn of_bmp(
     alloc: Global,
     read: Result<BmpString, PermittedAlphabetError>,
@@ -50,7 +50,7 @@ fn of_bmp(
     }
 }
 
-/// The octets of a string by `from_bytes` and `to_bytes`.
+/// Returns the octets of a string by `from_bytes` and `to_bytes`.
 fn of_teletex(
     alloc: Global,
     read: Result<RestrictedString<Teletex>, PermittedAlphabetError>,
@@ -81,7 +81,7 @@ fn of_text<K: IsIso646>(
     }
 }
 
-/// The answers of a string of ASCII that is read from octets.
+/// Answers the calls on a string of ASCII that is read from octets.
 fn of_read_text<K: AsText>(alloc: Global, name: &str, octets: &[u8]) -> Result<String, RowError> {
     match RestrictedString::<K>::try_from_slice(alloc, octets) {
         Ok(string) => of_ascii(alloc, name, string),

@@ -3,11 +3,11 @@
 use asn1_test_rows::{RowError, parse_word, show_value, wrong};
 use std::alloc::Global;
 
-/// The most numbers that the list of a word has.
+/// The most numbers in the list of a word.
 pub const MOST: usize = 4096;
 
-/// The numbers that a word encodes: with commas between them, `0..256` for those below 256, and
-/// `0..130/2` for each second of them; `-` for none.
+/// Returns the numbers that a word encodes: separated by commas, `0..256` for those below 256,
+/// `0..130/2` for every second one, or `-` for none.
 pub fn list(alloc: Global, word: &str) -> Result<Vec<u32>, RowError> {
     let mut numbers = Vec::new(alloc);
     if word == "-" {
@@ -25,8 +25,8 @@ pub fn list(alloc: Global, word: &str) -> Result<Vec<u32>, RowError> {
     Ok(numbers)
 }
 
-/// Appends the numbers from the first on and below the end, by steps; downward where the end is
-/// below.
+/// Appends the numbers from the first on and before the end, by steps; downward if the end is below
+/// the first.
 fn push_range(
     alloc: Global,
     numbers: &mut Vec<u32>,
@@ -58,7 +58,7 @@ fn push_range(
     Ok(())
 }
 
-/// How many numbers there are, and each.
+/// Returns how many numbers there are, and each of them.
 pub fn count_and_list(alloc: Global, count: usize, numbers: &[u32]) -> Result<String, RowError> {
     let mut text = show_value(alloc, count)?;
     for number in numbers {
@@ -68,7 +68,7 @@ pub fn count_and_list(alloc: Global, count: usize, numbers: &[u32]) -> Result<St
     Ok(text)
 }
 
-/// The text of octets in UTF-8.
+/// Returns the text of octets in UTF-8.
 pub fn text_of(alloc: Global, octets: Vec<u8>) -> Result<String, RowError> {
     match String::from_utf8(octets) {
         Ok(text) => Ok(text),

@@ -7,7 +7,7 @@ use std::alloc::Global;
 use std::collections::HashSet;
 use std::convert::AsSlice;
 
-/// The answers of octet strings: of none, of octets, or of two lists of octets.
+/// Answers the calls on octet strings: without words, of octets, or of two lists of octets.
 pub fn answer(alloc: Global, name: &str, words: &[&str]) -> Result<String, RowError> {
     match words {
         [] => constant(alloc, name),
@@ -35,7 +35,7 @@ fn text_of(alloc: Global, string: &OctetString) -> Result<String, RowError> {
     hex_of(alloc, string.as_ref())
 }
 
-/// The octets of a string that is made in this way.
+/// Answers the calls that make a string, by its octets.
 fn of_octets(alloc: Global, name: &str, octets: Vec<u8>) -> Result<String, RowError> {
     match name {
         "from_slice" => from_slice(alloc, octets.as_slice()),
@@ -48,7 +48,7 @@ fn of_octets(alloc: Global, name: &str, octets: Vec<u8>) -> Result<String, RowEr
     }
 }
 
-/// The answers on a string.
+/// Answers the calls on a string.
 fn of_string(alloc: Global, name: &str, string: &OctetString) -> Result<String, RowError> {
     match name {
         "len" => show_value(alloc, string.len()),
@@ -58,7 +58,7 @@ fn of_string(alloc: Global, name: &str, string: &OctetString) -> Result<String, 
     }
 }
 
-/// The octets that a value lends in generic code.
+/// Returns the octets of a value, borrowed by generic code.
 pub fn lent_octets<T: AsSlice<u8>>(alloc: Global, lender: &T) -> Result<String, RowError> {
     hex_of(alloc, lender.as_slice())
 }
@@ -96,7 +96,7 @@ fn of_vector(alloc: Global, octets: Vec<u8>) -> Result<OctetString, RowError> {
     }
 }
 
-/// The octets of a string of the vector, shared with it.
+/// Returns the octets of a string that shares them with a vector.
 fn share_octets(alloc: Global, octets: Vec<u8>) -> Result<Bytes, RowError> {
     Ok(of_vector(alloc, octets)?.to_bytes(alloc)?)
 }
@@ -124,7 +124,7 @@ fn of_two(
     }
 }
 
-/// Whether a set that has the first string has the second.
+/// Returns whether a set with the first string has the second.
 fn is_found(alloc: Global, first: OctetString, second: &OctetString) -> Result<String, RowError> {
     let mut seen = HashSet::new(alloc);
     seen.insert(first)?;

@@ -1,4 +1,4 @@
-//! The search of an ascending list, and how often it looks at the list.
+//! The search of an ascending list, and how often it reads the list.
 
 ghost use Rattle.std.specs.Prelude.{◌≡◌, true};
 ghost use Rattle.std.specs.List.Sorted.{IsNonDecreasing};
@@ -9,7 +9,7 @@ use asn1_bits::Turns;
 use asn1_test_rows::{RowError, parse_word, two, wrong};
 use std::alloc::Global;
 
-/// Whether the character is found in the list, and whether that took 1 to 8 looks.
+/// Returns whether the character is found in the list, and whether the list was read 1 to 8 times.
 pub fn answer(alloc: Global, name: &str, words: &[&str]) -> Result<String, RowError> {
     let (word, character) = two(alloc, words)?;
     let list = list(alloc, word)?;
@@ -20,7 +20,7 @@ pub fn answer(alloc: Global, name: &str, words: &[&str]) -> Result<String, RowEr
     Ok(format!(in alloc; "{found} {few}")?)
 }
 
-/// A list that counts the looks at it at run time too.
+/// A list that counts at run time how often it is read.
 #[derive(Drop)]
 struct Looked<'a> {
     list: &'a [u32],
@@ -45,7 +45,7 @@ impl<'a> Entries for Looked<'a> {
     }
 }
 
-/// Whether the list is ascending.
+/// Returns whether the list is ascending.
 fn is_ascending(list: &[u32]) -> bool
     ensures { result ≡ true → IsNonDecreasing list.now }
 {

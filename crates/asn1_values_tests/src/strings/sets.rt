@@ -4,7 +4,7 @@ use asn1_strings::StaticPermittedAlphabet;
 use asn1_test_rows::{RowError, show_value, wrong};
 use std::alloc::Global;
 
-/// The constants of a string.
+/// Returns a constant of a string.
 pub fn constant<S: StaticPermittedAlphabet>(alloc: Global, name: &str) -> Result<String, RowError> {
     match name {
         "CHARACTER_SET_NAME" => show_value(alloc, S::CHARACTER_SET_NAME),
@@ -29,7 +29,7 @@ fn ranges(alloc: Global, ranges: &[(u32, u32)]) -> Result<String, RowError> {
     Ok(text)
 }
 
-/// The longest ranges of characters below the limit that the set has, one by one asked.
+/// Returns the longest ranges of the set's characters below the limit, each of which is tested.
 pub fn ranges_of<S: StaticPermittedAlphabet>(
     alloc: Global,
     limit: u32,

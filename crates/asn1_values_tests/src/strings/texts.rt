@@ -8,7 +8,7 @@ use asn1_characters::{
 use asn1_test_rows::{RowError, parse_word, show_value, wrong};
 use std::alloc::Global;
 
-/// The texts of a name, or of an error with its numbers.
+/// Returns the texts of a name, or of an error with its numbers.
 pub fn answer(alloc: Global, name: &str, words: &[&str]) -> Result<String, RowError> {
     match words {
         [] => of_name(alloc, name),
@@ -39,7 +39,7 @@ fn of_name(alloc: Global, name: &str) -> Result<String, RowError> {
     }
 }
 
-/// The text of a string's own error of a character.
+/// Returns the text of the error of a string for a character.
 fn of_character(alloc: Global, name: &str, character: u32) -> Result<String, RowError> {
     match name {
         "InvalidBmpString" => show_value(alloc, InvalidBmpString::from(character)),
@@ -54,7 +54,7 @@ fn of_character(alloc: Global, name: &str, character: u32) -> Result<String, Row
     }
 }
 
-/// The text of an error with a number.
+/// Returns the text of an error with a number.
 fn of_refusal(alloc: Global, name: &str, number: u32) -> Result<String, RowError> {
     match name {
         "InvalidRestrictedString" => show_value(alloc, visible(number)),

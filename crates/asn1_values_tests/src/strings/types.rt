@@ -1,4 +1,4 @@
-//! The eight character strings, through the trait that all have.
+//! The eight character strings, by the trait of all.
 
 use crate::strings::lists::{count_and_list, text_of};
 use crate::strings::{bits, compared, sets};
@@ -9,7 +9,7 @@ use asn1_strings::{
 use asn1_test_rows::{RowError, octets, parse_word, show_value, wrong};
 use std::alloc::Global;
 
-/// The answers of a string by its name.
+/// Answers the calls on a string by its name.
 pub fn answer(alloc: Global, owner: &str, name: &str, words: &[&str]) -> Result<String, RowError> {
     match owner {
         "BmpString" => of_kind::<Bmp>(alloc, name, words),
@@ -24,8 +24,8 @@ pub fn answer(alloc: Global, owner: &str, name: &str, words: &[&str]) -> Result<
     }
 }
 
-/// The answers of a string: of no word, of octets, of a number, of octets and a width, of one or
-/// two lists of characters, or of bits.
+/// Answers the calls on a string: without words, of octets, of a number, of octets and a width, of
+/// one or two lists of characters, or of bits.
 fn of_kind<K: StringKind>(alloc: Global, name: &str, words: &[&str]) -> Result<String, RowError> {
     match words {
         [] => sets::constant::<RestrictedString<K>>(alloc, name),
@@ -75,7 +75,7 @@ fn of_width<S: StaticPermittedAlphabet>(
     with_width::<S>(alloc, octets(alloc, word)?.as_slice(), width)
 }
 
-/// The number of the characters of a string, and each; or why there is no string.
+/// Returns the number of a string's characters, and each of them; or the error.
 pub fn string_text<S: StaticPermittedAlphabet>(
     alloc: Global,
     read: Result<S, PermittedAlphabetError>,
@@ -86,7 +86,7 @@ pub fn string_text<S: StaticPermittedAlphabet>(
     }
 }
 
-/// The number of the characters of a string, and each.
+/// Returns the number of a string's characters, and each of them.
 pub fn characters<S: StaticPermittedAlphabet>(
     alloc: Global,
     string: &S,

@@ -1,8 +1,8 @@
-//! Why fields were not read or written.
+//! Errors of fields.
 
 use core::fmt;
 
-/// Why fields were not read. Fields are counted from 0, and the first wrong one is named.
+/// An error of reading fields, with the index of the first invalid field, from 0.
 ///
 /// ```
 /// let short = asn1_values::ReadError::Short { field: 1, bits: 4 };
@@ -17,50 +17,50 @@ pub enum ReadError {
     TooManyOctets,
     /// A number of more than 128 bits.
     NumberWidth {
-        /// Which field.
+        /// The index of the field.
         field: usize,
-        /// How many bits were asked for.
+        /// The width in bits.
         width: usize,
     },
     /// Octets that are not the shortest of a number (X.690 8.3.2), or none.
     Integer {
-        /// Which field.
+        /// The index of the field.
         field: usize,
     },
     /// A counted integer whose first octet is not 1 to 127.
     OctetCount {
-        /// Which field.
+        /// The index of the field.
         field: usize,
         /// The octet.
         octet: u8,
     },
     /// A number that is the code of no character of the alphabet.
     Character {
-        /// Which field.
+        /// The index of the field.
         field: usize,
         /// The number.
         code: u32,
     },
     /// Octets that are the contents of no identifier, however large its arcs, or none.
     Identifier {
-        /// Which field.
+        /// The index of the field.
         field: usize,
     },
     /// The contents of an identifier, one of whose arcs exceeds 32 bits.
     Arc {
-        /// Which field.
+        /// The index of the field.
         field: usize,
     },
-    /// By how many bits the octets are short of the field.
+    /// The octets end before the field does.
     Short {
-        /// Which field.
+        /// The index of the field.
         field: usize,
         /// How many bits are missing.
         bits: u128,
     },
 }
 
-/// Why fields were not written. Fields are counted from 0, and the first wrong one is named.
+/// An error of writing fields, with the index of the first invalid field, from 0.
 ///
 /// ```
 /// assert_eq!(asn1_values::WriteError::Room.to_string(), "the room is too small");
@@ -70,34 +70,34 @@ pub enum ReadError {
 pub enum WriteError {
     /// A number of more than 128 bits.
     NumberWidth {
-        /// Which field.
+        /// The index of the field.
         field: usize,
-        /// How many bits were asked for.
+        /// The width in bits.
         width: usize,
     },
     /// A number that is not below 2 to the power of its width.
     Number {
-        /// Which field.
+        /// The index of the field.
         field: usize,
     },
     /// The bits of octets are not whole octets.
     Length {
-        /// Which field.
+        /// The index of the field.
         field: usize,
     },
     /// A character that the alphabet has no code for.
     Character {
-        /// Which field.
+        /// The index of the field.
         field: usize,
         /// The character.
         character: u32,
     },
     /// A counted integer of more than 127 octets.
     OctetCount {
-        /// Which field.
+        /// The index of the field.
         field: usize,
     },
-    /// Every field fits, and the room does not have so many bits from the position on.
+    /// Every field fits, and the fields would end after the octets.
     Room,
 }
 

@@ -1,4 +1,4 @@
-//! Reading fields: one call, and the fields that its numbers tell.
+//! Reading fields: one call, and the fields by its numbers.
 
 use super::{Field, Shape};
 use crate::bits::Bits;
@@ -26,7 +26,7 @@ fn raised<'a, 's>(octets: &'a [u8], shape: &Shape<'s>, read: &sys::Field) -> Fie
     }
 }
 
-/// The integer whose octets lie after so many bits.
+/// Returns the integer whose octets follow some bits.
 fn number<'a>(read: &sys::Field, bits: Bits<'a>, lead: usize) -> Integer<'a> {
     match bits.part(lead, bits.len().saturating_sub(lead)) {
         Some(octets) if octets.len() > 128 => Integer(Form::Octets(octets)),
@@ -94,11 +94,11 @@ fn take(
     }
 }
 
-/// Reads one field of the shape from bit `position` on: the field, and the first bit after it.
+/// Reads a field of the shape from bit `position` on. Returns the field, and the index of the first bit after it.
 ///
 /// # Errors
 ///
-/// Why no field of the shape begins there, or that the position is past the octets.
+/// The fault of the field; or the position is after the octets.
 ///
 /// ```
 /// use asn1_values::{read_field, Field, Integer, ReadError, Shape};
@@ -122,11 +122,12 @@ pub fn read_field<'a, 's>(
     Ok((raised(octets, shape, &read[0]), end))
 }
 
-/// Reads fields of the shapes, one after another, from bit `position` on: the fields, and the first bit after them.
+/// Reads fields of the shapes, one after another, from bit `position` on. Returns the fields, and the index of the
+/// first bit after them.
 ///
 /// # Errors
 ///
-/// The first field that does not begin there, and why; or that the position is past the octets.
+/// The first invalid field and its fault; or the position is after the octets.
 ///
 /// ```
 /// use asn1_values::{read_fields, Bits, Field, ReadError, Shape};

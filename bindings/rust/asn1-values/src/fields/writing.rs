@@ -1,4 +1,4 @@
-//! Writing fields: each is one call, and what it writes is given in C's numbers.
+//! Writing fields: each is one call, with the field in the form for C.
 
 use super::{Field, Shape};
 use crate::bits::Bits;
@@ -6,7 +6,7 @@ use crate::error::WriteError;
 use crate::integers::{Form, Integer};
 use crate::sys::{self, Words};
 
-/// A field in C's numbers: one, or the octet that counts others and these.
+/// A field in the form for C: one field, or a counting octet and the octets.
 struct Parts<'a> {
     source: &'a [u8],
     alphabet: Option<sys::Alphabet>,
@@ -64,7 +64,7 @@ fn parts<'a>(field: &Field<'a, '_>) -> Parts<'a> {
     parts
 }
 
-/// One call: the code, the end or that which is needed, and the error.
+/// Makes one call. Returns the code, the end or the end that is needed, and the error.
 fn put(target: &mut [u8], at: usize, parts: &Parts<'_>) -> (u32, usize, sys::Refusal) {
     let alphabets = parts.alphabet.as_slice();
     let mut end = at;
@@ -91,14 +91,14 @@ fn put(target: &mut [u8], at: usize, parts: &Parts<'_>) -> (u32, usize, sys::Ref
     (code, end, refusal)
 }
 
-/// Where the field ends that is written from a bit on; None past `usize`.
+/// Returns the end of a field that is written from a bit on, or `None` if it exceeds `usize`.
 fn end_of(i: usize, field: &Field<'_, '_>, at: usize) -> Result<Option<usize>, WriteError> {
     if let Field::CountedInteger(number) = field {
         if number.octet_count() > 127 {
             return Err(WriteError::OctetCount { field: i });
         }
     }
-    // There is no room for a bit, so the call writes none, and tells the end that it needs.
+    // There is no room for a bit, so the call writes none, and returns the end that it needs.
     let (code, end, refusal) = put(&mut [], at, &parts(field));
     match code {
         sys::DONE => Ok(Some(end)),
@@ -116,16 +116,17 @@ fn end_of(i: usize, field: &Field<'_, '_>, at: usize) -> Result<Option<usize>, W
     }
 }
 
-/// Writes the fields, one after another, over the bits of the octets from bit `position` on, and answers the first bit
-/// after them. Every other bit stays. All fields are looked at first: what does not fit is rejected, and then no bit
-/// has changed.
+/// Writes the fields, one after another, over the bits of the octets from bit `position` on. Returns the index of the
+/// first bit after them. Every other bit is unchanged. All fields are examined first, so after an error no bit has
+/// changed.
 ///
-/// Each field is looked at and written by a call that is proved; the walk over the fields is this crate's, and is
+/// Each field is examined and written by a call that is proved. The loop over the fields is this crate's, and is
 /// tested.
 ///
 /// # Errors
 ///
-/// The first field that does not fit, and why; where all fit, `WriteError::Room` where they end past the octets.
+/// The first field that does not fit, and its fault. If all fit, `WriteError::Room` if they would end after the
+/// octets.
 ///
 /// ```
 /// use asn1_values::{write_fields, Field, Integer, WriteError};
@@ -142,7 +143,7 @@ pub fn write_fields(
 ) -> Result<usize, WriteError> {
     let mut end = Some(position);
     for (i, field) in fields.iter().enumerate() {
-        // A field after one that ends past `usize` is looked at all the same.
+        // A field after one that exceeds `usize` is examined too.
         let next = end_of(i, field, end.unwrap_or(0))?;
         end = end.and(next);
     }

@@ -5,7 +5,7 @@ use Rattle.field_lines.proofs.PartLemmas.{no_cut, cut_at}
 use Rattle.field_lines.proofs.parse.split_once.Goals as goal
 use Rattle.field_lines.proofs.parse.split_once.Goals.{After-position}
 
--- the place is that of the first such octet
+-- the index is that of the first such octet
 place : (c : After-position) → c.position.result ≡ position (λ octet. eqb octet c.args.separator) c.args.text.now
 place c =
     position_from_yields_List (λ octet. eqb octet c.args.separator) _ _ c.position.result c.position.ensures.ran

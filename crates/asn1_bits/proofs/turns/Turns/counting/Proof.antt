@@ -21,7 +21,7 @@ counting_spec resources logic tables routines linked =
     (made.unfolded resources logic.H tables routines linked)
     (λ _. tt) (λ _. tt) (λ lifetimes shares alive args number _.
     let chosen : ending.Ghost = ((lifetimes, shares, alive, args, tt), number) in
-    -- What the caller gets: the clause, and a counter that owns no bytes and nothing beside them. No token comes back.
+    -- What the caller gets: the clause, and a counter that owns no bytes and nothing beside them. It gets no token.
     let given : Sq logic [] (prop (ending.post chosen (vstruct vnil))) =
     suffices ! _ (ends_at logic contract.ended none clauses chosen (vstruct vnil) (record { count = number }) tt tt) $
     says ! refl $

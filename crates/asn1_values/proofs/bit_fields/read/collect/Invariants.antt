@@ -9,7 +9,7 @@ use Rattle.asn1_values.proofs.LiesLemmas.{after}
 use Rattle.asn1_values.proofs.WalkLemmas.{with_front}
 use Rattle.asn1_values.proofs.bit_fields.read.collect.Given as goal
 
--- the fields so far, and what is still to be read, are what all of it gives; so is a later error; and where they lie
+-- the fields so far, and what is still to be read, are the whole result; so is a later error; and where they lie
 abbrev pub invariant-loop-i : goal.invariant-loop-i
 invariant-loop-i l = record {
   walk : with_front (plain_fields l.fields.items) (fields_at (plain_shapes (drop l.i l.shapes)) (bits_left l.reader))
