@@ -1,6 +1,6 @@
 //! The parts of a value.
 
-ghost use Rattle.std.specs.Prelude.{◌≡◌, ◌+◌, ◌*◌, ◌<◌, Some, None, IfSome};
+ghost use Rattle.std.specs.Prelude.{◌≡◌, ◌+◌, ◌*◌, ◌<◌, ◌^◌, Some, None, IfSome, IsSome};
 
 use crate::tables::Rows;
 
@@ -41,6 +41,7 @@ impl Fragments {
     /// then `middle` and `last`. `None` after these, or if the index of a bit exceeds `usize`.
     pub fn span(&self, unit: usize, index: usize) -> Option<Span>
         ensures whole { index < self.now.whole → IfSome result (λ s. (s.at ≡ self.now.at + index * (65536 * unit + 8)) × (s.count ≡ 65536 * unit)) }
+        ensures some { index < self.now.whole → 65536 * unit + 8 < 2 ^ 64 → self.now.at + index * (65536 * unit + 8) < 2 ^ 64 → IsSome result }
         ensures middle { index ≡ self.now.whole → result ≡ Some self.now.middle }
         ensures last { index ≡ self.now.whole + 1 → result ≡ Some self.now.last }
         ensures none { self.now.whole + 1 < index → result ≡ None }
