@@ -71,7 +71,7 @@ fn put_joined(
     ensures { IsPut (LeftAt (AreTooMany (Octets (joined 8 (bits source.now) fragments))) node state.new) (leaf_of AreOctets (AreSized is_extensible size) Octets node)
         (Octets (joined 8 (bits source.now) fragments)) octets.old state.old octets.new state.new result }
 {
-    let count = size_of_fragments(source, fragments);
+    let count = size_of_fragments(source, 8, fragments);
     if count >= 1u128 << 64 {
         return leave(state, node);
     }

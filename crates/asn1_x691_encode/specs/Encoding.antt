@@ -23,7 +23,7 @@ use Rattle.asn1_x691_writers.specs.declared.contents.ContentsKind.{ContentsKind}
 use Rattle.asn1_x691_writers.specs.declared.contents.ContentsKind.TheVariants as kind
 use Rattle.asn1_x691_writers.specs.declared.state.Writer.{Writer}
 use Rattle.asn1_x691_writers.specs.declared.state.Rejection.TheVariants.{Misfit, Unsupported, NoRoom}
-use Rattle.asn1_x691_writers.specs.Put.{piece_in, IsFarInteger, IsFarIndex, IsInFragments, AreBitsInFragments}
+use Rattle.asn1_x691_writers.specs.Put.{piece_in, IsFarInteger, IsFarIndex, IsInFragments, HasManyBits}
 use Rattle.asn1_x691_writers.specs.Written.{IsAlike, IsWritten}
 use Rattle.asn1_x691_encode.specs.declared.context.Context.{Context}
 
@@ -170,12 +170,11 @@ pub record IsFragmented (c : Context) (InFragments : Part → Type 0) (next : �
   pub is : slice_get c.parts.now next ≡ Some part
   pub in_fragments : InFragments part
 
--- BIT STRING, REAL, identifiers and UTF-8 in fragments
+-- BIT STRING of 2^64 bits and more, REAL and identifiers in fragments
 abbrev pub IsLater : Context → ℕ → Option Node → Type 0
-IsLater c next (Some (type.BitString size is_extensible has_names)) = IsFragmented c AreBitsInFragments next
+IsLater c next (Some (type.BitString size is_extensible has_names)) = IsFragmented c (HasManyBits c.source.now) next
 IsLater c next (Some type.ObjectIdentifier) = IsFragmented c IsInFragments next
 IsLater c next (Some type.RelativeIdentifier) = IsFragmented c IsInFragments next
-IsLater c next (Some type.Utf8String) = IsFragmented c IsInFragments next
 IsLater c next (Some type.Real) = IsFragmented c IsInFragments next
 IsLater c next o = ⊥
 

@@ -1,8 +1,10 @@
-//! Encodes octets that are kept by their contents: identifiers and UTF-8.
+//! Encodes octets that are kept by their contents: identifiers, REAL and UTF-8.
 
 ghost use Rattle.asn1_x691.specs.Fragments.{most_fragments};
-ghost use Rattle.std.specs.Prelude.{◌≡◌, ◌-◌, ◌*◌, ◌^◌, ◌<◌, Some, length, slice_get};
+ghost use Rattle.std.specs.Prelude.{◌≡◌, ◌≢◌, ◌-◌, ◌*◌, ◌^◌, ◌<◌, Some, true, false, length, slice_get};
 ghost use Rattle.asn1_x691.specs.Leaves.{contents};
+ghost use Rattle.asn1_x691_writers.specs.declared.contents.ContentsKind.TheVariants.{Utf8};
+ghost use Rattle.asn1_x691_writers.specs.Put.{IsInFragments};
 ghost use Rattle.asn1_x691_writers.specs.Validity.{IsValid};
 ghost use Rattle.asn1_x691_encode.specs.Encoding.{Outcome, node_of};
 
@@ -28,7 +30,7 @@ pub(crate) fn encode_contents(
 {
     match part_at(context.parts, state.next) {
         None => reject(state, node, MisfitKind::NoPart),
-        Some(Part::OctetsInFragments(_)) => leave(state, node),
+        Some(part) if is_left(kind, &part) => leave(state, node),
         Some(part) => pass(
             put_contents(
                 octets,
@@ -41,5 +43,21 @@ pub(crate) fn encode_contents(
             ),
             state,
         ),
+    }
+}
+
+/// Returns whether a part is an identifier or a REAL in fragments.
+#[inline(always)]
+fn is_left(kind: ContentsKind, part: &Part) -> bool
+    ensures kind { result ≡ true → kind ≢ Utf8 }
+    ensures yes { result ≡ true → IsInFragments part.now }
+    ensures no { result ≡ false → kind ≢ Utf8 → IsInFragments part.now → ⊥ }
+{
+    match *part {
+        Part::OctetsInFragments(_) => match kind {
+            ContentsKind::Utf8 => false,
+            _ => true,
+        },
+        _ => false,
     }
 }

@@ -1,13 +1,13 @@
 //! Encodes values of one part.
 
 ghost use Rattle.asn1_x691.specs.Fragments.{most_fragments, octets as octets_in};
-ghost use Rattle.std.specs.Prelude.{◌≡◌, ℕ, Bool, List, ◌+◌, ◌-◌, ◌*◌, ◌^◌, ◌<◌, Some, length, slice_get};
+ghost use Rattle.std.specs.Prelude.{◌≡◌, ℕ, Bool, List, ◌+◌, ◌-◌, ◌*◌, ◌^◌, ◌<◌, Some, true, false, length, slice_get};
 ghost use Rattle.asn1_schema.specs.declared.tables.Node.TheVariants as type;
 ghost use Rattle.asn1_schema.specs.declared.tables.Range.{Range};
 ghost use Rattle.asn1_schema.specs.Encodings.{anywhere};
 ghost use Rattle.asn1_schema.specs.Pieces.{Null, Truth, Unknown};
 ghost use Rattle.asn1_schema.specs.TypeEncodings.{leaf, nothing, put};
-ghost use Rattle.asn1_x691_writers.specs.Put.{IsPut, piece_in};
+ghost use Rattle.asn1_x691_writers.specs.Put.{HasManyBits, IsPut, piece_in};
 ghost use Rattle.asn1_x691.specs.Strings.{bit};
 ghost use Rattle.asn1_x691.specs.Leaves.{integer, integer_between_by, integer_at_least_by, enumerated_by, bit_string, octet_string};
 ghost use Rattle.asn1_x691_encode.specs.Encoding.{Outcome};
@@ -16,7 +16,7 @@ use crate::context::{Context, part_at, pass};
 use asn1_schema::{Bounds, Length, LowerBound, MisfitKind, Part};
 use asn1_x691_writers::{
     Writer, leave, put_bit_string, put_boolean, put_enumerated, put_integer, put_integer_at_least,
-    put_integer_between, put_octet_string, put_unknown, reject,
+    put_integer_between, put_octet_string, put_unknown, reject, size_of_fragments,
 };
 
 /// Encodes a BOOLEAN (X.691 12).
@@ -187,7 +187,7 @@ pub(crate) fn encode_bits(
 {
     match part_at(context.parts, state.next) {
         None => reject(state, node, MisfitKind::NoPart),
-        Some(Part::BitsInFragments(_)) => leave(state, node),
+        Some(part) if has_many_bits(context.source, &part) => leave(state, node),
         Some(part) => pass(
             put_bit_string(
                 octets,
@@ -202,6 +202,21 @@ pub(crate) fn encode_bits(
             ),
             state,
         ),
+    }
+}
+
+/// Returns whether a part is a BIT STRING in fragments, of 2^64 bits or more.
+#[inline(always)]
+fn has_many_bits(source: &[u8], part: &Part) -> bool
+    requires { 8 * length source.now < 2 ^ 64 }
+    ensures yes { result ≡ true → HasManyBits source.now part.now }
+    ensures no { result ≡ false → HasManyBits source.now part.now → ⊥ }
+{
+    match *part {
+        Part::BitsInFragments(fragments) => {
+            size_of_fragments(source, 1, fragments) > u64::MAX as u128
+        }
+        _ => false,
     }
 }
 

@@ -45,8 +45,9 @@ pub struct Misfit {
 /// no meaning then. Two reasons are no misfit:
 ///
 /// - [`Rejection::Unsupported`]: the encoder does not support the part. It begins an open type of
-///   16,384 octets or more, is an identifier or UTF-8 in fragments, is an INTEGER or an index that is
-///   too large, or begins an item of a SET OF that does not begin at an octet in the ALIGNED variant.
+///   16,384 octets or more, is an identifier or a REAL in fragments, is a BIT STRING in fragments of
+///   2^64 bits or more, is an INTEGER or an index that is too large, or begins an item of a SET OF that
+///   does not begin at an octet in the ALIGNED variant.
 /// - [`Rejection::NoRoom`]: the part begins a value of more than 504 bits that must be compared, and
 ///   the octets are too few for it: a component with its default value, or an item of a SET OF with
 ///   the item before it.

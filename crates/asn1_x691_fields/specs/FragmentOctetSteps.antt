@@ -38,7 +38,7 @@ module _ (list : List Bool) (f : Fragments) (i : AreInside 8 list f) where
   L = bits_of list f.last
 
   size_of_whole : length W ≡ 524288 * f.whole
-  size_of_whole = length_fragments list f.at f.whole whole_inside
+  size_of_whole = length_fragments 8 list f.at f.whole whole_inside
 
   size_of_middle : length M ≡ f.middle.count
   size_of_middle = front_length list f.middle.at f.middle.count i.middle.inside
@@ -59,7 +59,7 @@ module _ (list : List Bool) (f : Fragments) (i : AreInside 8 list f) where
       let w = index / 65536 in
       let r = 8 * (index % 65536) in
       let e : 524288 * w + r ≡ 8 * index = omega arith in
-      let run = fragment_run list f.at f.whole w r (M ++ L) h (omega arith) whole_inside in
+      let run = fragment_run list 8 f.at f.whole w r (M ++ L) h (omega arith) whole_inside in
       sym (first_bits (joined 8 list f) list (524288 * w + r) (f.at + 524296 * w + r) (524288 - r) 8 (omega arith) run)
       ∙ ap (λ (k : ℕ). bits_at (joined 8 list f) k 8) e
 

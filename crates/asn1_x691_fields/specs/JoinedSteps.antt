@@ -1,5 +1,6 @@
--- What follows of octets in fragments: which bits of the message are a run of theirs.
+-- What follows of units in fragments: which bits of the message are a run of theirs.
 use Rattle.std.proofs.Common.{◌≡◌, ℕ, zero, suc, ◌+◌, ◌*◌, ◌-◌, ◌<◌, ◌≤◌, List, [], ◌++◌, Bool, length, take, drop, refl, sym, ap, ◌∙◌, arith, append_assoc}
+use Rattle.std.proofs.Math.Nat.{mul-le-mul_right}
 use Rattle.std.proofs.Math.Seq.{drop-append-add}
 use Rattle.std.proofs.lemmas.List.{length-append, length-drop, drop_all, append-nil, drop-drop, drop-take, drop-append-le, take-append-le, take-take}
 use Rattle.asn1_schema.specs.declared.part.Span.{Span}
@@ -12,45 +13,54 @@ pub none_at : (list : List Bool) (at count : ℕ) → length list ≤ at → bit
 none_at list at zero h = refl
 none_at list at (suc count) h = ap (take (suc count)) (drop_all at list h)
 
-pub past_end : (list : List Bool) (at times : ℕ) → length list ≤ at → whole_fragments 8 list at times ≡ []
-unfolding whole_fragments
-past_end list at zero h = refl
-past_end list at (suc times) h =
-    ap (λ (l : List Bool). l ++ whole_fragments 8 list (at + 524288 + 8) times) (none_at list at 524288 h)
-    ∙ past_end list (at + 524288 + 8) times (omega (arith, h))
+-- the bits of a fragment of 65,536 units, and of the length octet after it
+abbrev pub and_octet : ℕ → ℕ
+and_octet unit = unit * 65536 + 8
 
-pub fragments_apart : (list : List Bool) (at m n : ℕ)
-    → whole_fragments 8 list at (m + n) ≡ whole_fragments 8 list at m ++ whole_fragments 8 list (at + 524296 * m) n
-unfolding whole_fragments
-fragments_apart list at zero n =
-    let e : zero + n ≡ n = omega arith in
-    let f : at ≡ at + 524296 * zero = omega arith in
-    ap (λ (k : ℕ). whole_fragments 8 list at k) e ∙ ap (λ (k : ℕ). whole_fragments 8 list k n) f
-fragments_apart list at (suc m) n =
-    let e : suc m + n ≡ suc (m + n) = omega arith in
-    let f : at + 524288 + 8 + 524296 * m ≡ at + 524296 * suc m = omega arith in
-    ap (λ (k : ℕ). whole_fragments 8 list at k) e
-    ∙ ap (λ (l : List Bool). bits_at list at 524288 ++ l) (fragments_apart list (at + 524288 + 8) m n)
-    ∙ sym (append_assoc (bits_at list at 524288) (whole_fragments 8 list (at + 524288 + 8) m)
-    (whole_fragments 8 list (at + 524288 + 8 + 524296 * m) n))
-    ∙ ap (λ (k : ℕ). (bits_at list at 524288 ++ whole_fragments 8 list (at + 524288 + 8) m) ++ whole_fragments 8 list k n) f
+module _ (unit : ℕ) where
+  pub past_end : (list : List Bool) (at times : ℕ) → length list ≤ at → whole_fragments unit list at times ≡ []
+  unfolding whole_fragments
+  past_end list at zero h = refl
+  past_end list at (suc times) h =
+      let next = at + unit * 65536 + 8 in
+      ap (λ (l : List Bool). l ++ whole_fragments unit list next times) (none_at list at (unit * 65536) h)
+      ∙ past_end list next times (omega (arith, h))
 
-pub one_more : (list : List Bool) (at times : ℕ) → 0 < times → length list ≤ at + 524296 → whole_fragments 8 list at times ≡ bits_at list at 524288
-unfolding whole_fragments
-one_more list at zero some h = absurd (omega (arith, some))
-one_more list at (suc times) some h =
-    ap (λ (l : List Bool). bits_at list at 524288 ++ l) (past_end list (at + 524288 + 8) times (omega (arith, h)))
-    ∙ append-nil (bits_at list at 524288)
+  pub fragments_apart : (list : List Bool) (at m n : ℕ)
+      → whole_fragments unit list at (m + n) ≡ whole_fragments unit list at m ++ whole_fragments unit list (at + and_octet unit * m) n
+  unfolding whole_fragments
+  fragments_apart list at zero n =
+      let e : zero + n ≡ n = omega arith in
+      let f : at ≡ at + and_octet unit * zero = omega arith in
+      ap (λ (k : ℕ). whole_fragments unit list at k) e ∙ ap (λ (k : ℕ). whole_fragments unit list k n) f
+  fragments_apart list at (suc m) n =
+      let size = unit * 65536 in
+      let next = at + size + 8 in
+      let e : suc m + n ≡ suc (m + n) = omega arith in
+      let f : next + and_octet unit * m ≡ at + and_octet unit * suc m = omega arith in
+      ap (λ (k : ℕ). whole_fragments unit list at k) e
+      ∙ ap (λ (l : List Bool). bits_at list at size ++ l) (fragments_apart list next m n)
+      ∙ sym (append_assoc (bits_at list at size) (whole_fragments unit list next m) (whole_fragments unit list (next + and_octet unit * m) n))
+      ∙ ap (λ (k : ℕ). (bits_at list at size ++ whole_fragments unit list next m) ++ whole_fragments unit list k n) f
 
-pub length_fragments : (list : List Bool) (at times : ℕ) → at + 524296 * times ≤ length list
-    → length (whole_fragments 8 list at times) ≡ 524288 * times
-unfolding whole_fragments
-length_fragments list at zero h = omega arith
-length_fragments list at (suc times) h =
-    let first = front_length list at 524288 (omega (arith, h)) in
-    let others = length_fragments list (at + 524288 + 8) times (omega (arith, h)) in
-    let all = length-append (bits_at list at 524288) (whole_fragments 8 list (at + 524288 + 8) times) in
-    omega (arith, first, others, all)
+  pub one_more : (list : List Bool) (at times : ℕ) → 0 < times → length list ≤ at + and_octet unit
+      → whole_fragments unit list at times ≡ bits_at list at (unit * 65536)
+  unfolding whole_fragments
+  one_more list at zero some h = absurd (omega (arith, some))
+  one_more list at (suc times) some h =
+      ap (λ (l : List Bool). bits_at list at (unit * 65536) ++ l) (past_end list (at + unit * 65536 + 8) times (omega (arith, h)))
+      ∙ append-nil (bits_at list at (unit * 65536))
+
+  pub length_fragments : (list : List Bool) (at times : ℕ) → at + and_octet unit * times ≤ length list
+      → length (whole_fragments unit list at times) ≡ unit * 65536 * times
+  unfolding whole_fragments
+  length_fragments list at zero h = omega arith
+  length_fragments list at (suc times) h =
+      let next = at + unit * 65536 + 8 in
+      let first = front_length list at (unit * 65536) (omega (arith, h)) in
+      let others = length_fragments list next times (omega (arith, h)) in
+      let all = length-append (bits_at list at (unit * 65536)) (whole_fragments unit list next times) in
+      omega (arith, first, others, all)
 
 -- ---- bits of lists one after another
 
@@ -82,39 +92,46 @@ cancel n r = omega arith
 no_less : (n r : ℕ) → n ≤ n + r
 no_less n r = omega arith
 
-to_end : (size r : ℕ) → r ≤ 524288 → size ≡ 524288 → r + (524288 - r) ≤ size
-to_end size r h e = omega (arith, h, e)
-
-within_whole : (size whole w r : ℕ) → w < whole → r ≤ 524288 → size ≡ 524288 * whole → 524288 * w + r + (524288 - r) ≤ size
-within_whole size whole w r some h e = omega (arith, some, h, e)
-
 next_one : (whole w : ℕ) → w < whole → whole ≡ w + suc (whole - w - 1)
 next_one whole w h = omega (arith, h)
 
-first_inside : (at whole w size : ℕ) → w < whole → at + 524296 * whole ≤ size → at + 524296 * w + 524288 ≤ size
-first_inside at whole w size some h = omega (arith, some, h)
+module _ (unit whole w r : ℕ) (some : w < whole) (few : r ≤ unit * 65536) where
+  -- the fragments up to this one are among all
+  many : suc w * unit ≤ whole * unit
+  many = mul-le-mul_right unit some
 
-some_inside : (at whole w size : ℕ) → w < whole → at + 524296 * whole ≤ size → at + 524296 * w ≤ size
-some_inside at whole w size some h = omega (arith, some, h)
+  to_end : (size : ℕ) → size ≡ unit * 65536 → r + (unit * 65536 - r) ≤ size
+  to_end size e = omega (arith, few, e)
+
+  within_whole : (size : ℕ) → size ≡ unit * 65536 * whole → unit * 65536 * w + r + (unit * 65536 - r) ≤ size
+  within_whole size e = omega (arith, many, few, e)
+
+  first_inside : (at size : ℕ) → at + and_octet unit * whole ≤ size → at + and_octet unit * w + unit * 65536 ≤ size
+  first_inside at size h = omega (arith, many, some, h)
+
+  some_inside : (at size : ℕ) → at + and_octet unit * whole ≤ size → at + and_octet unit * w ≤ size
+  some_inside at size h = omega (arith, many, some, h)
 
 module _ (list : List Bool) where
-  pub fragment_run : (at whole w r : ℕ) (others : List Bool) → w < whole → r ≤ 524288 → at + 524296 * whole ≤ length list
-      → bits_at (whole_fragments 8 list at whole ++ others) (524288 * w + r) (524288 - r) ≡ bits_at list (at + 524296 * w + r) (524288 - r)
+  pub fragment_run : (unit at whole w r : ℕ) (others : List Bool) → w < whole → r ≤ unit * 65536 → at + and_octet unit * whole ≤ length list
+      → bits_at (whole_fragments unit list at whole ++ others) (unit * 65536 * w + r) (unit * 65536 - r)
+      ≡ bits_at list (at + and_octet unit * w + r) (unit * 65536 - r)
   unfolding whole_fragments
-  fragment_run at whole w r others some few inside =
-      let all = length_fragments list at whole inside in
-      let before = length_fragments list at w (some_inside at whole w (length list) some inside) in
-      let first = at + 524296 * w in
+  fragment_run unit at whole w r others some few inside =
+      let size = unit * 65536 in
+      let all = length_fragments unit list at whole inside in
+      let before = length_fragments unit list at w (some_inside unit whole w r some few at (length list) inside) in
+      let first = at + and_octet unit * w in
       let rest = whole - w - 1 in
-      let one = front_length list first 524288 (first_inside at whole w (length list) some inside) in
-      in_first (whole_fragments 8 list at whole) others (524288 * w + r) (524288 - r) (within_whole _ whole w r some few all)
-      ∙ ap (λ (l : List Bool). bits_at l (524288 * w + r) (524288 - r))
-      (ap (λ (k : ℕ). whole_fragments 8 list at k) (next_one whole w some) ∙ fragments_apart list at w (suc rest))
-      ∙ in_second (whole_fragments 8 list at w) (whole_fragments 8 list first (suc rest)) (524288 * w + r) (524288 - r)
-      (524288 * w) before (no_less (524288 * w) r)
-      ∙ ap (λ (k : ℕ). bits_at (whole_fragments 8 list first (suc rest)) k (524288 - r)) (cancel (524288 * w) r)
-      ∙ in_first (bits_at list first 524288) (whole_fragments 8 list (first + 524288 + 8) rest) r (524288 - r) (to_end _ r few one)
-      ∙ rest_of_span list first 524288 r few
+      let one = front_length list first size (first_inside unit whole w r some few at (length list) inside) in
+      in_first (whole_fragments unit list at whole) others (size * w + r) (size - r) (within_whole unit whole w r some few _ all)
+      ∙ ap (λ (l : List Bool). bits_at l (size * w + r) (size - r))
+      (ap (λ (k : ℕ). whole_fragments unit list at k) (next_one whole w some) ∙ fragments_apart unit list at w (suc rest))
+      ∙ in_second (whole_fragments unit list at w) (whole_fragments unit list first (suc rest)) (size * w + r) (size - r)
+      (size * w) before (no_less (size * w) r)
+      ∙ ap (λ (k : ℕ). bits_at (whole_fragments unit list first (suc rest)) k (size - r)) (cancel (size * w) r)
+      ∙ in_first (bits_at list first size) (whole_fragments unit list (first + size + 8) rest) r (size - r) (to_end unit whole w r some few _ one)
+      ∙ rest_of_span list first size r few
 
   module _ (part middle last : Span) (inside : part.at + part.count ≤ length list) (within : middle.at + middle.count ≤ length list) where
     abbrev After : List Bool

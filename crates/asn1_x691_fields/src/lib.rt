@@ -74,5 +74,5 @@ pub use strings::{next_count, next_octets, next_units};
 pub use texts::{next_extensible_text, next_text_of_root};
 pub use times::{is_time_at, next_time, visible};
 pub use unbounded::{next_semi_constrained, next_unconstrained};
-pub use utf8_texts::{is_utf8, next_utf8_string};
+pub use utf8_texts::{is_utf8, next_utf8_string, text_len};
 pub use windows::{Window, number_in, window_at};

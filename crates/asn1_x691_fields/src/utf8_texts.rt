@@ -94,7 +94,7 @@ fn copy_octets(message: &[u8], at: usize, octets: &mut [u8])
 }
 
 /// Returns how many of the first octets are UTF-8.
-pub(crate) fn text_len(octets: &[u8]) -> usize
+pub fn text_len(octets: &[u8]) -> usize
     ensures few { result ≤ length octets.now }
     ensures text { IsUtf8 (take result octets.now) }
     ensures none { result ≡ 0 → (k : ℕ) → 0 < k → k ≤ length octets.now → IsUtf8 (take k octets.now) → ⊥ }

@@ -9,7 +9,7 @@
 //! it needs. The answer to a row of `uper-many` is how many parts there are.
 #![tactic(auto)]
 
-use asn1_schema::{Node, Part, Tables};
+use asn1_schema::{Part, Tables};
 use asn1_schema_rows::{Schema, Source, schema_of, text_of};
 use asn1_test_rows::{Answers, RowError, hex_of, octets, run, wrong};
 use asn1_x691_decode::{Context, Defaults, decode};
@@ -37,7 +37,7 @@ enum Form {
 }
 
 /// The most octets of a message of a row of two types.
-const LARGE: usize = 1_000;
+const LARGE: usize = 20_000;
 
 /// The greatest depth of a value of a row.
 const DEPTH: usize = 100;
@@ -87,19 +87,8 @@ fn decoded<'a>(
     }
 }
 
-/// Returns whether the encoder leaves a part of the value of a node: one in fragments that is no OCTET
-/// STRING.
-fn is_left(tables: Tables<'_>, node: usize, part: &Part) -> bool {
-    match *part {
-        Part::BitsInFragments(_) => true,
-        Part::OctetsInFragments(_) => matches!(tables.nodes.get(node), Some(Node::Utf8String)),
-        _ => false,
-    }
-}
-
-/// Encodes the parts of a message, and returns whether that makes the message again, or the encoder
-/// leaves a part that it may leave. Without room the same number of octets is needed, unless a value of
-/// more than 504 bits must be compared.
+/// Encodes the parts of a message, and returns whether that makes the message again. Without room the
+/// same number of octets is needed, unless a value of more than 504 bits must be compared.
 fn is_encoded_again(
     alloc: Global,
     context: &Context<'_>,
@@ -117,16 +106,14 @@ fn is_encoded_again(
         source: octets,
         is_aligned: context.is_aligned,
     };
-    let is_left = parts.iter().any(|part| is_left(context.tables, node, part));
     let is_measured = match encode(&value, DEPTH, node, &mut []) {
         Ok(encoded) => encoded.octets == octets.len(),
-        Err(misfit) if misfit.reason == Rejection::NoRoom => octets.len() > 63,
-        Err(misfit) => is_left && misfit.reason == Rejection::Unsupported,
+        Err(misfit) => misfit.reason == Rejection::NoRoom && octets.len() > 63,
     };
     let mut room = vec![in alloc; 0u8; octets.len() + 8]?;
     match encode(&value, DEPTH, node, room.as_mut_slice()) {
         Ok(encoded) => { Ok(is_measured && room.as_slice().get(..encoded.octets) == Some(octets)) }
-        Err(misfit) => Ok(is_measured && is_left && misfit.reason == Rejection::Unsupported),
+        Err(_) => Ok(false),
     }
 }
 

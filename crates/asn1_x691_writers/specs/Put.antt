@@ -7,7 +7,7 @@ use Rattle.asn1_schema.specs.declared.part.Part.TheVariants.{BitsInFragments, Oc
 use Rattle.asn1_schema.specs.declared.part.Fragments.{Fragments}
 use Rattle.asn1_schema.specs.declared.tables.Range.{Range}
 use Rattle.asn1_schema.specs.Pieces.{Piece, Integer, UnknownEnumerated, Parts}
-use Rattle.asn1_schema.specs.PiecesOfParts.{piece_of}
+use Rattle.asn1_schema.specs.PiecesOfParts.{piece_of, joined}
 use Rattle.asn1_schema.specs.TypeEncodings.{TypeEncoding}
 use Rattle.asn1_x691.specs.declared.fault.FaultKind.{FaultKind}
 use Rattle.asn1_x691_fields.specs.Numbers.{distance}
@@ -22,6 +22,10 @@ IsInFragments p = (f : Fragments) × (p ≡ OctetsInFragments f)
 -- the part is a string whose bits are in fragments
 abbrev pub AreBitsInFragments : Part → Type 0
 AreBitsInFragments p = (f : Fragments) × (p ≡ BitsInFragments f)
+
+-- the part is a string in fragments of a source, of 2^64 bits or more
+abbrev pub HasManyBits : List ℕ → Part → Type 0
+HasManyBits source p = (f : Fragments) × (p ≡ BitsInFragments f) × (2 ^ 64 ≤ length (joined 1 (bits source) f))
 
 -- the piece that a part is, whose spans are bits of these octets, by a table of ranges
 abbrev pub piece_in : List Range → List ℕ → Part → Piece

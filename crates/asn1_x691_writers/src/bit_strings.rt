@@ -9,16 +9,18 @@ ghost use Rattle.asn1_schema.specs.PiecesOfParts.{bits_of, bits_at};
 ghost use Rattle.asn1_schema.specs.TypeEncodings.{leaf};
 ghost use Rattle.asn1_x691.specs.Leaves.{AreTrimmed, bits_by, bit_string, least_of as least_in};
 ghost use Rattle.asn1_x691.specs.Strings.{string_of};
-ghost use Rattle.asn1_x691_writers.specs.Put.{AreBitsInFragments, IsPut, piece_in};
+ghost use Rattle.asn1_x691_writers.specs.Put.{HasManyBits, IsPut, piece_in};
 
 use crate::bits::read_few;
+use crate::bits_in_fragments::put_bits_in_fragments;
 use crate::booleans::put_bit;
 use crate::sized_strings::{is_of_root, put_added_string, put_string_of};
 use crate::spans::clip;
-use crate::state::{Writer, leave, reject};
+use crate::state::{Writer, reject};
 use asn1_schema::{Length, MisfitKind, Part, Span};
 
-/// Writes a BIT STRING by its size constraint (X.691 16.2 to 16.11). The part must not be in fragments.
+/// Writes a BIT STRING by its size constraint (X.691 16.2 to 16.11). One in fragments must have fewer than
+/// 2^64 bits.
 pub fn put_bit_string(
     octets: &mut [u8],
     is_aligned: bool,
@@ -32,7 +34,7 @@ pub fn put_bit_string(
 ) -> bool
     requires size { 8 * length octets.old < 2 ^ 64 }
     requires source { 8 * length source.now < 2 ^ 64 }
-    requires whole { AreBitsInFragments part → ⊥ }
+    requires few { HasManyBits source.now part → ⊥ }
     ensures { (ranges : List Range) → IsPut is_aligned (bit_string most_fragments is_aligned node size is_extensible has_names) (piece_in ranges source.now part) octets.old state.old
         octets.new state.new result }
 {
@@ -48,7 +50,17 @@ pub fn put_bit_string(
                 octets, is_aligned, size, has_names, source, inside, node, state,
             )
         }
-        Part::BitsInFragments(_) => leave(state, node),
+        Part::BitsInFragments(fragments) => put_bits_in_fragments(
+            octets,
+            is_aligned,
+            size,
+            is_extensible,
+            has_names,
+            source,
+            fragments,
+            node,
+            state,
+        ),
         _ => reject(state, node, MisfitKind::OtherPart),
     }
 }
@@ -116,7 +128,7 @@ fn put_extensible(
 }
 
 /// Returns the least size that a constraint permits.
-fn least_of(size: Length) -> usize
+pub(crate) fn least_of(size: Length) -> usize
     ensures { result ≡ least_in size }
 {
     match size {

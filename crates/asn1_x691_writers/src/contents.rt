@@ -1,17 +1,19 @@
 //! Octets that are kept by their contents: REAL, identifiers and UTF-8 (X.691 15, 24, 25, 30.6).
 
 ghost use Rattle.asn1_x691.specs.Fragments.{most_fragments};
-ghost use Rattle.std.specs.Prelude.{◌≡◌, ◌+◌, ◌*◌, ◌%◌, ◌^◌, ◌<◌, ◌≤◌, true, false, length, List};
+ghost use Rattle.std.specs.Prelude.{◌≡◌, ◌≢◌, ◌+◌, ◌*◌, ◌%◌, ◌^◌, ◌<◌, ◌≤◌, true, false, length, List};
 ghost use Rattle.asn1_bits.specs.Bits.{bits};
 ghost use Rattle.asn1_schema.specs.declared.tables.Range.{Range};
 ghost use Rattle.asn1_schema.specs.PiecesOfParts.{bits_of};
 ghost use Rattle.asn1_x691.specs.Leaves.{contents};
+ghost use Rattle.asn1_x691_writers.specs.declared.contents.ContentsKind.TheVariants.{Utf8};
 ghost use Rattle.asn1_x691_writers.specs.Put.{IsInFragments, IsPut, piece_in};
 ghost use Rattle.asn1_x691_writers.specs.Validity.{IsValid};
 
 use crate::spans::clip;
 use crate::state::{Writer, leave, reject};
 use crate::unknown::put_octets;
+use crate::utf8_in_fragments::put_utf8_in_fragments;
 use asn1_schema::{MisfitKind, Part, Span};
 use asn1_x691_fields::{are_subidentifiers, is_real_at, is_utf8};
 
@@ -28,8 +30,7 @@ pub enum ContentsKind {
     Real,
 }
 
-/// Writes octets of a kind after their number (X.691 15, 24, 25, 30.6). The part must not be in
-/// fragments.
+/// Writes octets of a kind after their number (X.691 15, 24, 25, 30.6). Only UTF-8 may be in fragments.
 pub fn put_contents(
     octets: &mut [u8],
     is_aligned: bool,
@@ -41,7 +42,7 @@ pub fn put_contents(
 ) -> bool
     requires size { 8 * length octets.old < 2 ^ 64 }
     requires source { 8 * length source.now < 2 ^ 64 }
-    requires whole { IsInFragments part → ⊥ }
+    requires whole { kind ≢ Utf8 → IsInFragments part → ⊥ }
     ensures { (ranges : List Range) → IsPut is_aligned (contents most_fragments is_aligned node (IsValid kind)) (piece_in ranges source.now part) octets.old state.old octets.new
         state.new result }
 {
@@ -61,7 +62,12 @@ pub fn put_contents(
             );
             true
         }
-        Part::OctetsInFragments(_) => leave(state, node),
+        Part::OctetsInFragments(fragments) => match kind {
+            ContentsKind::Utf8 => {
+                put_utf8_in_fragments(octets, is_aligned, source, fragments, node, state)
+            }
+            _ => leave(state, node),
+        },
         _ => reject(state, node, MisfitKind::OtherPart),
     }
 }

@@ -1,4 +1,4 @@
-//! Octets in fragments, as one string of bits.
+//! Units in fragments, as one string of bits.
 
 ghost use Rattle.std.specs.Prelude.{◌≡◌, ◌++◌, ◌+◌, ◌-◌, ◌*◌, ◌^◌, ◌<◌, ◌≤◌, length};
 ghost use Rattle.asn1_bits.specs.Bits.{bits};
@@ -13,9 +13,11 @@ use asn1_schema::{Fragments, Span};
 /// The bits of a part in fragments that are within the source.
 #[derive(Clone, Copy, Debug)]
 pub(crate) struct Joined {
+    /// How many bits a unit has.
+    pub(crate) unit: usize,
     /// The index of the first bit of the first fragment.
     pub(crate) at: usize,
-    /// How many fragments of 65,536 octets there are, each with an octet after it.
+    /// How many fragments of 65,536 units there are, each with an octet after it.
     pub(crate) whole: usize,
     /// The bits of the fragment after them.
     pub(crate) part: Span,
@@ -25,10 +27,13 @@ pub(crate) struct Joined {
     pub(crate) last: Span,
 }
 
-/// Returns the bits of fragments.
-pub(crate) fn joined_of(source: &[u8], fragments: Fragments) -> Joined
-    requires { 8 * length source.now < 2 ^ 64 }
-    ensures same { bits_in (bits source.now) result ≡ joined_in 8 (bits source.now) fragments }
+/// Returns the bits of fragments of units of `unit` bits, of which there must be one to eight.
+pub(crate) fn joined_of(source: &[u8], unit: usize, fragments: Fragments) -> Joined
+    requires source { 8 * length source.now < 2 ^ 64 }
+    requires some { 0 < unit }
+    requires few { unit ≤ 8 }
+    ensures unit { result.unit ≡ unit }
+    ensures same { bits_in (bits source.now) result ≡ joined_in unit (bits source.now) fragments }
     ensures inside { IsInside (bits source.now) result }
 {
     let size = 8 * source.len();
@@ -37,6 +42,7 @@ pub(crate) fn joined_of(source: &[u8], fragments: Fragments) -> Joined
     let none = Span { at: 0, count: 0 };
     if fragments.at > size {
         return Joined {
+            unit,
             at: 0,
             whole: 0,
             part: none,
@@ -44,9 +50,11 @@ pub(crate) fn joined_of(source: &[u8], fragments: Fragments) -> Joined
             last,
         };
     }
-    let within = (size - fragments.at) / 524_296;
+    let count = unit * 65_536;
+    let within = (size - fragments.at) / (count + 8);
     if fragments.whole <= within {
         return Joined {
+            unit,
             at: fragments.at,
             whole: fragments.whole,
             part: none,
@@ -54,14 +62,10 @@ pub(crate) fn joined_of(source: &[u8], fragments: Fragments) -> Joined
             last,
         };
     }
-    let part = clip(
-        source,
-        Span {
-            at: fragments.at + 524_296 * within,
-            count: 524_288,
-        },
-    );
+    let at = fragments.at + (count + 8) * within;
+    let part = clip(source, Span { at, count });
     Joined {
+        unit,
         at: fragments.at,
         whole: within,
         part,
@@ -78,11 +82,11 @@ pub(crate) fn size_of(source: &[u8], joined: &Joined) -> u128
     ensures few { result < 2 ^ 67 }
 {
     let after = joined.part.count as u128 + joined.middle.count as u128 + joined.last.count as u128;
-    524_288 * joined.whole as u128 + after
+    (joined.unit * 65_536) as u128 * joined.whole as u128 + after
 }
 
 /// Returns the bits of the source that are those from an index on, as many as follow one another.
-fn run_at(source: &[u8], joined: &Joined, from: u128) -> Span
+pub(crate) fn run_at(source: &[u8], joined: &Joined, from: u128) -> Span
     requires source { 8 * length source.now < 2 ^ 64 }
     requires inside { IsInside (bits source.now) joined.now }
     requires within { from < length (bits_in (bits source.now) joined.now) }
@@ -90,18 +94,20 @@ fn run_at(source: &[u8], joined: &Joined, from: u128) -> Span
     ensures inside { result.at + result.count ≤ length (bits source.now) }
     ensures same { bits_of (bits source.now) result ≡ bits_at (bits_in (bits source.now) joined.now) from result.count }
 {
-    let whole = 524_288 * joined.whole as u128;
+    let count = joined.unit * 65_536;
+    let whole = count as u128 * joined.whole as u128;
     if from < whole {
-        let skip = (from % 524_288) as usize;
+        let index = (from / count as u128) as usize;
+        let skip = (from % count as u128) as usize;
         return Span {
-            at: joined.at + 524_296 * (from / 524_288) as usize + skip,
-            count: 524_288 - skip,
+            at: joined.at + (count + 8) * index + skip,
+            count: count - skip,
         };
     }
     run_after(source, joined, from - whole)
 }
 
-/// Returns the same of the bits after the fragments of 65,536 octets.
+/// Returns the same of the bits after the fragments of 65,536 units.
 fn run_after(source: &[u8], joined: &Joined, from: u128) -> Span
     requires source { 8 * length source.now < 2 ^ 64 }
     requires inside { IsInside (bits source.now) joined.now }
@@ -164,17 +170,19 @@ pub(crate) fn put_joined(
     next
 }
 
-/// Returns how many bits a part in fragments has.
-pub fn size_of_fragments(source: &[u8], fragments: Fragments) -> u128
-    requires { 8 * length source.now < 2 ^ 64 }
-    ensures { result ≡ length (joined_in 8 (bits source.now) fragments) }
+/// Returns how many bits fragments of units of `unit` bits have. A unit must have one to eight bits.
+pub fn size_of_fragments(source: &[u8], unit: usize, fragments: Fragments) -> u128
+    requires source { 8 * length source.now < 2 ^ 64 }
+    requires some { 0 < unit }
+    requires few { unit ≤ 8 }
+    ensures { result ≡ length (joined_in unit (bits source.now) fragments) }
 {
-    let joined = joined_of(source, fragments);
+    let joined = joined_of(source, unit, fragments);
     size_of(source, &joined)
 }
 
-/// Writes the `count` bits of a part in fragments. Returns the index after them. `count` must be the
-/// number of all its bits.
+/// Writes the `count` bits of octets in fragments. Returns the index after them. `count` must be the
+/// number of all their bits.
 pub fn put_fragments(
     octets: &mut [u8],
     at: usize,
@@ -187,6 +195,6 @@ pub fn put_fragments(
     requires all { count ≡ length (joined_in 8 (bits source.now) fragments) }
     ensures { IsGrown octets.old at octets.new result (joined_in 8 (bits source.now) fragments) }
 {
-    let joined = joined_of(source, fragments);
+    let joined = joined_of(source, 8, fragments);
     put_joined(octets, at, source, &joined, 0, count)
 }

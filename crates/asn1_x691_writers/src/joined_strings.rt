@@ -1,5 +1,5 @@
-//! Octets of a part in fragments, after their number and by their size constraint (X.691 11.9.3.5 to
-//! 11.9.3.8, 17).
+//! Units of a part in fragments, after their number and by their size constraint (X.691 11.9.3.5 to
+//! 11.9.3.8, 16, 17).
 
 ghost use Rattle.std.specs.Prelude.{◌≡◌, ℕ, suc, ◌++◌, ◌+◌, ◌*◌, ◌^◌, ◌<◌, ◌≤◌, true, false, length};
 ghost use Rattle.asn1_bits.specs.Bits.{bits};
@@ -14,9 +14,10 @@ use crate::heads::put_start;
 use crate::joined::{Joined, put_joined};
 use crate::lengths::{put_fragment_number, put_number_of_units};
 use crate::numbers::put_constrained;
+use crate::sized_strings::is_inline;
 use asn1_schema::Length;
 
-/// Writes octets of a number of the root. Returns the index after them.
+/// Writes units of a number of the root. Returns the index after them.
 pub(crate) fn put_joined_of(
     octets: &mut [u8],
     at: usize,
@@ -29,10 +30,10 @@ pub(crate) fn put_joined_of(
     requires size { 8 * length octets.old < 2 ^ 64 }
     requires source { 8 * length source.now < 2 ^ 64 }
     requires inside { IsInside (bits source.now) joined.now }
-    requires all { 8 * count ≡ length (bits_in (bits source.now) joined.now) }
+    requires all { joined.now.unit * count ≡ length (bits_in (bits source.now) joined.now) }
     requires root { IsOfRoot size count }
-    ensures { (node : ℕ) → IsWritten is_aligned (string_of most_fragments is_aligned 8 size node)
-        (bits_at (bits_in (bits source.now) joined.now) 0 (8 * count)) octets.old at octets.new result }
+    ensures { (node : ℕ) → IsWritten is_aligned (string_of most_fragments is_aligned joined.now.unit size node)
+        (bits_at (bits_in (bits source.now) joined.now) 0 (joined.now.unit * count)) octets.old at octets.new result }
 {
     match size {
         Length::AtLeast { least: _ } => put_joined_units(
@@ -60,7 +61,7 @@ pub(crate) fn put_joined_of(
     }
 }
 
-/// Writes octets of a number that is none of the root (X.691 17.3). Returns the index after them.
+/// Writes units of a number that is none of the root (X.691 16.6, 17.3). Returns the index after them.
 pub(crate) fn put_added_joined(
     octets: &mut [u8],
     at: usize,
@@ -72,15 +73,15 @@ pub(crate) fn put_added_joined(
     requires size { 8 * length octets.old < 2 ^ 64 }
     requires source { 8 * length source.now < 2 ^ 64 }
     requires inside { IsInside (bits source.now) joined.now }
-    requires all { 8 * count ≡ length (bits_in (bits source.now) joined.now) }
-    ensures { (size : Length) (node : ℕ) → IsAddedSize size count → IsWritten is_aligned (added_string most_fragments is_aligned 8 size node)
-        (bits_at (bits_in (bits source.now) joined.now) 0 (8 * count)) octets.old at octets.new result }
+    requires all { joined.now.unit * count ≡ length (bits_in (bits source.now) joined.now) }
+    ensures { (size : Length) (node : ℕ) → IsAddedSize size count → IsWritten is_aligned (added_string most_fragments is_aligned joined.now.unit size node)
+        (bits_at (bits_in (bits source.now) joined.now) 0 (joined.now.unit * count)) octets.old at octets.new result }
 {
     put_joined_units(octets, at, is_aligned, source, joined, count)
 }
 
-/// Writes `count` octets, which begin at an octet in the ALIGNED variant, unless their number is
-/// fixed and small, or there are none (X.691 17.6, 17.7).
+/// Writes `count` units, which begin at an octet in the ALIGNED variant, unless their number is
+/// fixed and small, or there are none (X.691 16.9, 16.10, 17.6, 17.7).
 fn put_joined_inline(
     octets: &mut [u8],
     at: usize,
@@ -97,33 +98,19 @@ fn put_joined_inline(
     requires least { least ≤ count }
     requires most { count ≤ least + range }
     requires few { count < 2 ^ 40 }
-    requires all { 8 * count ≡ length (bits_in (bits source.now) joined.now) }
-    ensures { (node : ℕ) → IsWritten is_aligned (units_of is_aligned 8 least range node count)
-        (bits_at (bits_in (bits source.now) joined.now) 0 (8 * count)) octets.old at octets.new result }
+    requires all { joined.now.unit * count ≡ length (bits_in (bits source.now) joined.now) }
+    ensures { (node : ℕ) → IsWritten is_aligned (units_of is_aligned joined.now.unit least range node count)
+        (bits_at (bits_in (bits source.now) joined.now) 0 (joined.now.unit * count)) octets.old at octets.new result }
 {
-    if are_inline(range, count) {
-        return put_joined(octets, at, source, joined, 0, 8 * count);
+    if is_inline(joined.unit, least, range, count) {
+        return put_joined(octets, at, source, joined, 0, joined.unit * count);
     }
     let start = put_start(octets, at, is_aligned);
-    put_joined(octets, start, source, joined, 0, 8 * count)
+    put_joined(octets, start, source, joined, 0, joined.unit * count)
 }
 
-/// Returns whether `count` octets begin where they are.
-fn are_inline(range: usize, count: usize) -> bool
-    ensures is { (least : ℕ) → least ≤ count → count ≤ least + range → result ≡ true → IsInline 8 least range count }
-    ensures not { (least : ℕ) → least ≤ count → count ≤ least + range → result ≡ false → IsOnOctet 8 least range count }
-{
-    if count == 0 {
-        return true;
-    }
-    if range > 0 {
-        return false;
-    }
-    count <= 2
-}
-
-/// Writes octets after their number. Returns the index after them.
-fn put_joined_units(
+/// Writes units after their number. Returns the index after them.
+pub(crate) fn put_joined_units(
     octets: &mut [u8],
     at: usize,
     is_aligned: bool,
@@ -134,22 +121,22 @@ fn put_joined_units(
     requires size { 8 * length octets.old < 2 ^ 64 }
     requires source { 8 * length source.now < 2 ^ 64 }
     requires inside { IsInside (bits source.now) joined.now }
-    requires all { 8 * count ≡ length (bits_in (bits source.now) joined.now) }
-    ensures { (node : ℕ) → IsWritten is_aligned (string most_fragments is_aligned 8 node)
-        (count, bits_at (bits_in (bits source.now) joined.now) 0 (8 * count)) octets.old at octets.new result }
+    requires all { joined.now.unit * count ≡ length (bits_in (bits source.now) joined.now) }
+    ensures { (node : ℕ) → IsWritten is_aligned (string most_fragments is_aligned joined.now.unit node)
+        (count, bits_at (bits_in (bits source.now) joined.now) 0 (joined.now.unit * count)) octets.old at octets.new result }
 {
     let mut next = at;
     let mut first: u128 = 0;
     let mut left = count;
     while left >= 65536 {
         next = put_joined_fragment(octets, next, is_aligned, source, joined, first, 4);
-        first += 524_288;
+        first += (joined.unit * 65_536) as u128;
         left -= 65536;
     }
     put_last_joined(octets, next, is_aligned, source, joined, first, left)
 }
 
-/// Writes the last octets, of which there are fewer than 65,536.
+/// Writes the last units, of which there are fewer than 65,536.
 fn put_last_joined(
     octets: &mut [u8],
     at: usize,
@@ -163,16 +150,16 @@ fn put_last_joined(
     requires source { 8 * length source.now < 2 ^ 64 }
     requires inside { IsInside (bits source.now) joined.now }
     requires few { count < 65536 }
-    requires within { from + 8 * count ≤ length (bits_in (bits source.now) joined.now) }
-    ensures { (node more : ℕ) → IsWritten is_aligned (all_units (bits_of_units 8 node) (λ a b. a ++ b) is_aligned node (suc more))
-        (count, bits_at (bits_in (bits source.now) joined.now) from (8 * count)) octets.old at octets.new result }
+    requires within { from + joined.now.unit * count ≤ length (bits_in (bits source.now) joined.now) }
+    ensures { (node more : ℕ) → IsWritten is_aligned (all_units (bits_of_units joined.now.unit node) (λ a b. a ++ b) is_aligned node (suc more))
+        (count, bits_at (bits_in (bits source.now) joined.now) from (joined.now.unit * count)) octets.old at octets.new result }
 {
     let times = count / 16384;
     if times == 0 {
         return put_few_joined(octets, at, is_aligned, source, joined, from, count);
     }
     let after = put_joined_fragment(octets, at, is_aligned, source, joined, from, times);
-    let first = 8 * (16384 * times);
+    let first = joined.unit * (16384 * times);
     put_few_joined(
         octets,
         after,
@@ -184,7 +171,7 @@ fn put_last_joined(
     )
 }
 
-/// Writes fewer than 16,384 octets after their number.
+/// Writes fewer than 16,384 units after their number.
 fn put_few_joined(
     octets: &mut [u8],
     at: usize,
@@ -198,15 +185,15 @@ fn put_few_joined(
     requires source { 8 * length source.now < 2 ^ 64 }
     requires inside { IsInside (bits source.now) joined.now }
     requires few { count < 16384 }
-    requires within { from + 8 * count ≤ length (bits_in (bits source.now) joined.now) }
-    ensures { (node : ℕ) → AreUnits is_aligned 8 node count (bits_at (bits_in (bits source.now) joined.now) from (8 * count))
+    requires within { from + joined.now.unit * count ≤ length (bits_in (bits source.now) joined.now) }
+    ensures { (node : ℕ) → AreUnits is_aligned joined.now.unit node count (bits_at (bits_in (bits source.now) joined.now) from (joined.now.unit * count))
         octets.old at octets.new result }
 {
     let after = put_number_of_units(octets, at, is_aligned, count);
-    put_joined(octets, after, source, joined, from, 8 * count)
+    put_joined(octets, after, source, joined, from, joined.unit * count)
 }
 
-/// Writes a fragment of `times` times 16,384 octets (X.691 11.9.3.8).
+/// Writes a fragment of `times` times 16,384 units (X.691 11.9.3.8).
 fn put_joined_fragment(
     octets: &mut [u8],
     at: usize,
@@ -221,10 +208,17 @@ fn put_joined_fragment(
     requires inside { IsInside (bits source.now) joined.now }
     requires some { 1 ≤ times }
     requires few { times ≤ 4 }
-    requires within { from + 8 * (16384 * times) ≤ length (bits_in (bits source.now) joined.now) }
-    ensures { (node : ℕ) → AreUnits is_aligned 8 node (16384 * times)
-        (bits_at (bits_in (bits source.now) joined.now) from (8 * (16384 * times))) octets.old at octets.new result }
+    requires within { from + joined.now.unit * (16384 * times) ≤ length (bits_in (bits source.now) joined.now) }
+    ensures { (node : ℕ) → AreUnits is_aligned joined.now.unit node (16384 * times)
+        (bits_at (bits_in (bits source.now) joined.now) from (joined.now.unit * (16384 * times))) octets.old at octets.new result }
 {
     let after = put_fragment_number(octets, at, is_aligned, times);
-    put_joined(octets, after, source, joined, from, 8 * (16384 * times))
+    put_joined(
+        octets,
+        after,
+        source,
+        joined,
+        from,
+        joined.unit * (16384 * times),
+    )
 }

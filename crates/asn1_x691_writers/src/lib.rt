@@ -15,6 +15,7 @@
 
 mod bit_strings;
 mod bits;
+mod bits_in_fragments;
 mod booleans;
 mod characters;
 mod contents;
@@ -41,6 +42,7 @@ mod texts;
 mod times;
 mod unbounded;
 mod unknown;
+mod utf8_in_fragments;
 
 pub use bit_strings::put_bit_string;
 pub use bits::{after, put_bits, put_number, put_wide};
@@ -68,3 +70,4 @@ pub use unbounded::{
     put_unconstrained_span,
 };
 pub use unknown::{put_octets, put_unknown};
+pub use utf8_in_fragments::put_utf8_in_fragments;

@@ -129,7 +129,7 @@ fn put_fragments_of_root(
     ensures { IsPut is_aligned (leaf (string_of most_fragments is_aligned 8 size node) Octets node)
         (Octets (joined_in 8 (bits source.now) fragments)) octets.old state.old octets.new state.new result }
 {
-    let joined = joined_of(source, fragments);
+    let joined = joined_of(source, 8, fragments);
     let total = size_of(source, &joined);
     if total % 8 > 0 {
         return reject(state, node, MisfitKind::NoEncoding);
@@ -157,7 +157,7 @@ fn put_extensible_fragments(
     ensures { IsPut is_aligned (octet_string most_fragments is_aligned node size true) (Octets (joined_in 8 (bits source.now) fragments))
         octets.old state.old octets.new state.new result }
 {
-    let joined = joined_of(source, fragments);
+    let joined = joined_of(source, 8, fragments);
     let total = size_of(source, &joined);
     if total % 8 > 0 {
         return reject(state, node, MisfitKind::NoEncoding);

@@ -123,7 +123,7 @@ fn put_units_of(
 }
 
 /// Returns whether `count` units begin where they are.
-fn is_inline(unit: usize, least: usize, range: usize, count: usize) -> bool
+pub(crate) fn is_inline(unit: usize, least: usize, range: usize, count: usize) -> bool
     requires least { least ≤ count }
     requires most { count ≤ least + range }
     requires fits { unit * count < 2 ^ 64 }

@@ -2,15 +2,16 @@ use Rattle.asn1_x691.specs.Fragments.{most_fragments}
 use Rattle.std.proofs.Common.{◌≡◌, ℕ, ◌*◌, ◌/◌, List, Bool, refl, sym, ap, ◌∙◌, subst, arith}
 use Rattle.asn1_bits.specs.Bits.{bits}
 use Rattle.asn1_schema.specs.declared.misfit.MisfitKind.TheVariants.{NoEncoding}
-use Rattle.asn1_schema.specs.Pieces.{Octets}
-use Rattle.asn1_schema.specs.PiecesOfParts.{bits_at, bits_of}
+use Rattle.asn1_schema.specs.Pieces.{Piece, Octets}
+use Rattle.asn1_schema.specs.PiecesOfParts.{bits_at, bits_of, joined}
 use Rattle.asn1_schema.specs.Encodings.{Encoding, permitted}
 use Rattle.asn1_schema.specs.Laws.PermittedLaws.{permitted_is}
 use Rattle.asn1_x691.specs.declared.fault.FaultKind.{FaultKind}
 use Rattle.asn1_x691.specs.declared.fault.FaultKind.TheVariants.{Contents}
 use Rattle.asn1_x691.specs.Fragments.{octets}
 use Rattle.asn1_x691.specs.Leaves.{contents}
-use Rattle.asn1_x691_writers.specs.Put.{piece_in}
+use Rattle.asn1_x691_writers.specs.declared.contents.ContentsKind.{ContentsKind}
+use Rattle.asn1_x691_writers.specs.Put.{IsPut, piece_in}
 use Rattle.asn1_x691_writers.specs.Written.{IsWritten}
 use Rattle.asn1_x691_writers.specs.FieldSteps.{permitted_written}
 use Rattle.asn1_x691_writers.specs.LeafSteps.{leaf_written, leaf_none}
@@ -56,3 +57,16 @@ returns-else-not-is_valid c ranges =
           (permitted_written aligned V N Contents node A list was now old new (c.is_valid.ensures.yes c.if-not-is_valid.false) w);
       next = refl;
     }
+
+pub returns-in-Utf8 : goal.returns-in-Utf8
+returns-in-Utf8 c ranges =
+    let a = c.args in
+    let k = c.put_utf8_in_fragments in
+    let e = ap (piece_in ranges a.source.now) c.in-OctetsInFragments.is in
+    subst
+    (λ (p : Piece). IsPut a.is_aligned (contents most_fragments a.is_aligned a.node (IsValid a.kind)) p a.octets.now a.state.now k.new.octets
+    k.new.state k.result) (sym e)
+    (subst
+    (λ (kind : ContentsKind). IsPut a.is_aligned (contents most_fragments a.is_aligned a.node (IsValid kind))
+    (Octets (joined 8 (bits a.source.now) c.in-OctetsInFragments.fragments)) a.octets.now a.state.now k.new.octets k.new.state k.result)
+    (sym c.in-Utf8.is) k.ensures)

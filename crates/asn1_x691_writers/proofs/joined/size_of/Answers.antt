@@ -1,11 +1,13 @@
-use Rattle.std.proofs.Common.{sym, arith}
+use Rattle.std.proofs.Common.{arith}
 use Rattle.asn1_bits.specs.Bits.{bits}
 use Rattle.asn1_bits.specs.Laws.DigitLaws.{length-bits}
 use Rattle.asn1_x691_writers.specs.JoinedSteps.{length_in}
 use Rattle.asn1_x691_writers.proofs.joined.size_of.Goals as goal
 
 pub returns-clause-size : goal.returns-clause-size
-returns-clause-size c = sym (length_in (bits c.args.source.now) c.args.joined.now c.requires.inside)
+returns-clause-size c =
+    let e = length_in (bits c.args.source.now) c.args.joined.now c.requires.inside in
+    omega (arith, e)
 
 pub returns-clause-few : goal.returns-clause-few
 returns-clause-few c =

@@ -11,7 +11,7 @@ use Rattle.asn1_x691_writers.proofs.joined_strings.put_added_joined.Goals as goa
 
 pub returns : goal.returns
 returns c size node added =
-    let list = bits_at (bits_in (bits c.args.source.now) c.args.joined.now) 0 (8 * c.args.count) in
+    let list = bits_at (bits_in (bits c.args.source.now) c.args.joined.now) 0 (c.args.joined.now.unit * c.args.count) in
     turn_constant c.args.is_aligned c.args.octets.now c.put_joined_units.new.octets c.args.at c.put_joined_units.result
-    (string most_fragments c.args.is_aligned 8 node) (λ v bits. bits) (λ v. where_size (IsAddedSize size) (IsOfRoot size) InRoot node v)
+    (string most_fragments c.args.is_aligned c.args.joined.now.unit node) (λ v bits. bits) (λ v. where_size (IsAddedSize size) (IsOfRoot size) InRoot node v)
     (c.args.count, list) list (c.put_joined_units.ensures node) (λ p. inl (added, (refl, refl)))

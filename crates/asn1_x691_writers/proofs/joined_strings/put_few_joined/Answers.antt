@@ -14,6 +14,6 @@ returns c node =
       between = c.put_number_of_units-after.new.octets;
       at = c.put_number_of_units-after.result;
       count = c.put_number_of_units-after.ensures node;
-      units = raw_written c.args.is_aligned (8 * n) node (bits_at list c.args.from (8 * n)) c.put_number_of_units-after.new.octets c.put_joined.new.octets
-          c.put_number_of_units-after.result c.put_joined.result (front_length list c.args.from (8 * n) c.requires.within) c.put_joined.ensures;
+      units = raw_written c.args.is_aligned (c.args.joined.now.unit * n) node (bits_at list c.args.from (c.args.joined.now.unit * n)) c.put_number_of_units-after.new.octets c.put_joined.new.octets
+          c.put_number_of_units-after.result c.put_joined.result (front_length list c.args.from (c.args.joined.now.unit * n) c.requires.within) c.put_joined.ensures;
     }

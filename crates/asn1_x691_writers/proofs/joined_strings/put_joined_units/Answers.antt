@@ -8,18 +8,18 @@ use Rattle.asn1_x691_writers.proofs.joined_strings.put_joined_units.Goals as goa
 
 pub loop-left-init : goal.loop-left-init
 loop-left-init c =
-    fragmented_first c.args.is_aligned 8 (bits_in (bits c.args.source.now) c.args.joined.now) c.args.octets.now c.args.at 0 c.args.count
+    fragmented_first c.args.is_aligned c.args.joined.now.unit (bits_in (bits c.args.source.now) c.args.joined.now) c.args.octets.now c.args.at 0 c.args.count
     (omega arith)
 
 pub put_joined_fragment-next-requires-clause-within : goal.put_joined_fragment-next-requires-clause-within
 put_joined_fragment-next-requires-clause-within c =
-    let le = units_before c.args.is_aligned 8 (bits_in (bits c.args.source.now) c.args.joined.now) c.args.octets.now c.args.at 0 c.args.count
+    let le = units_before c.args.is_aligned c.args.joined.now.unit (bits_in (bits c.args.source.now) c.args.joined.now) c.args.octets.now c.args.at 0 c.args.count
     c.loop-left.octets c.loop-left.octets c.loop-left.next c.loop-left.next c.loop-left.first c.loop-left.left c.loop-left-test.true in
     omega (arith, le, c.loop-left.invariant.size, c.requires.all)
 
 pub overflow_add-first : goal.overflow_add-first
 overflow_add-first c =
-    let le = units_before c.args.is_aligned 8 (bits_in (bits c.args.source.now) c.args.joined.now) c.args.octets.now c.args.at 0 c.args.count
+    let le = units_before c.args.is_aligned c.args.joined.now.unit (bits_in (bits c.args.source.now) c.args.joined.now) c.args.octets.now c.args.at 0 c.args.count
     c.loop-left.octets c.loop-left.octets c.loop-left.next c.loop-left.next c.loop-left.first c.loop-left.left c.loop-left-test.true in
     let few : length (bits c.args.source.now) < 2 ^ 64 = omega (arith, length-bits c.args.source.now, c.requires.source) in
     let most = few_in (bits c.args.source.now) c.args.joined.now c.requires.inside few in
@@ -27,7 +27,7 @@ overflow_add-first c =
 
 pub loop-left-preserved : goal.loop-left-preserved
 loop-left-preserved c =
-    fragmented_next c.args.is_aligned 8 (bits_in (bits c.args.source.now) c.args.joined.now) c.args.octets.now c.args.at 0 c.args.count
+    fragmented_next c.args.is_aligned c.args.joined.now.unit (bits_in (bits c.args.source.now) c.args.joined.now) c.args.octets.now c.args.at 0 c.args.count
     c.loop-left.octets c.put_joined_fragment-next.new.octets c.loop-left.next c.put_joined_fragment-next.result c.loop-left.first c.loop-left.left
     c.loop-left-test.true c.loop-left.invariant c.put_joined_fragment-next.ensures
 
@@ -36,6 +36,6 @@ put_last_joined-requires-clause-within c = omega (arith, c.loop-left.invariant.s
 
 pub returns : goal.returns
 returns c node =
-    fragmented_last c.args.is_aligned 8 (bits_in (bits c.args.source.now) c.args.joined.now) c.args.octets.now c.args.at 0 c.args.count
+    fragmented_last c.args.is_aligned c.args.joined.now.unit (bits_in (bits c.args.source.now) c.args.joined.now) c.args.octets.now c.args.at 0 c.args.count
     c.loop-left.octets c.put_last_joined.new.octets c.loop-left.next c.loop-left.first c.loop-left.left c.put_last_joined.result node
     c.loop-left.invariant c.put_last_joined.ensures

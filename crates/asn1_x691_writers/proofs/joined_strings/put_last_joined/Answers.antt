@@ -12,18 +12,18 @@ use Rattle.asn1_x691_writers.proofs.joined_strings.put_last_joined.Goals as goal
 
 pub returns-then-times-eq0 : goal.returns-then-times-eq0
 returns-then-times-eq0 c node more =
-    few_units (bits_of_units 8 node) (λ a b. a ++ b) c.args.is_aligned node c.args.count (bits_at (bits_in (bits c.args.source.now) c.args.joined.now) c.args.from (8 * c.args.count))
+    few_units (bits_of_units c.args.joined.now.unit node) (λ a b. a ++ b) c.args.is_aligned node c.args.count (bits_at (bits_in (bits c.args.source.now) c.args.joined.now) c.args.from (c.args.joined.now.unit * c.args.count))
     c.args.octets.now c.put_few_joined.new.octets c.args.at c.put_few_joined.result (c.put_few_joined.ensures node) more (omega (arith, c.if-times-eq0.true))
 
 pub put_few_joined-requires-2-clause-within : goal.put_few_joined-requires-2-clause-within
 put_few_joined-requires-2-clause-within c =
     let e : 16384 * (c.args.count / 16384) + c.args.count % 16384 ≡ c.args.count = omega arith in
-    omega (arith, ap (λ (k : ℕ). 8 * k) e, c.requires.within)
+    omega (arith, ap (λ (k : ℕ). c.args.joined.now.unit * k) e, c.requires.within)
 
 pub returns : goal.returns
 returns c node more =
     let aligned = c.args.is_aligned in
-    let unit : ℕ = 8 in
+    let unit = c.args.joined.now.unit in
     let count = c.args.count in
     let list = bits_in (bits c.args.source.now) c.args.joined.now in
     let from = c.args.from in

@@ -1,8 +1,8 @@
-use Rattle.std.proofs.Common.{◌≡◌, ◌*◌, ◌/◌, ◌∷◌, true, false, List, Bool, length, refl, sym, ap, ◌∙◌, subst, arith}
+use Rattle.std.proofs.Common.{◌≡◌, ℕ, ◌*◌, ◌/◌, ◌∷◌, true, false, List, Bool, length, refl, sym, ap, ◌∙◌, subst, arith}
 use Rattle.asn1_bits.specs.Bits.{bits}
 use Rattle.asn1_schema.specs.declared.misfit.MisfitKind.TheVariants.{NoEncoding}
 use Rattle.asn1_schema.specs.Pieces.{Octets}
-use Rattle.asn1_schema.specs.PiecesOfParts.{joined}
+use Rattle.asn1_schema.specs.PiecesOfParts.{bits_at, joined}
 use Rattle.asn1_schema.specs.TypeEncodings.{leaf}
 use Rattle.asn1_x691.specs.Fragments.{most_fragments}
 use Rattle.asn1_x691_writers.specs.Joined.{bits_in}
@@ -58,7 +58,8 @@ returns-then-is_of_root c =
           (c.put_bit-root.ensures aligned node)
           (leaf_written (string_of most_fragments aligned 8 size node) Octets node aligned list (Octets list) mid now at new refl
           (subst (λ (l : List Bool). IsWritten aligned (string_of most_fragments aligned 8 size node) l mid at now new) e
-          (c.put_joined_of-state.ensures node)));
+          (subst (λ (u : ℕ). IsWritten aligned (string_of most_fragments aligned u size node) (bits_at whole 0 (u * (total / 8))) mid at now new)
+          c.joined_of-joined.ensures.unit (c.put_joined_of-state.ensures node))));
       next = refl;
     }
 
@@ -85,6 +86,19 @@ returns c =
           (c.put_bit-added.ensures aligned node)
           (leaf_written (added_string most_fragments aligned 8 size node) Octets node aligned list (Octets list) mid now at new refl
           (subst (λ (l : List Bool). IsWritten aligned (added_string most_fragments aligned 8 size node) l mid at now new) e
-          (c.put_added_joined-state.ensures size node (c.is_of_root.ensures.added c.if-is_of_root.false))));
+          (subst (λ (u : ℕ). IsWritten aligned (added_string most_fragments aligned u size node) (bits_at whole 0 (u * (total / 8))) mid at now new)
+          c.joined_of-joined.ensures.unit (c.put_added_joined-state.ensures size node (c.is_of_root.ensures.added c.if-is_of_root.false)))));
       next = refl;
     }
+
+pub put_joined_of-state-requires-clause-all : goal.put_joined_of-state-requires-clause-all
+put_joined_of-state-requires-clause-all c =
+    let total = c.size_of-total.result in
+    let e = ap (λ (u : ℕ). u * (total / 8)) c.joined_of-joined.ensures.unit in
+    omega (arith, e, c.size_of-total.ensures.size, c.if-total-gt0.false)
+
+pub put_added_joined-state-requires-clause-all : goal.put_added_joined-state-requires-clause-all
+put_added_joined-state-requires-clause-all c =
+    let total = c.size_of-total.result in
+    let e = ap (λ (u : ℕ). u * (total / 8)) c.joined_of-joined.ensures.unit in
+    omega (arith, e, c.size_of-total.ensures.size, c.if-total-gt0.false)

@@ -1,8 +1,8 @@
-use Rattle.std.proofs.Common.{◌≡◌, ◌*◌, ◌/◌, List, Bool, length, refl, sym, ap, ◌∙◌, subst, arith}
+use Rattle.std.proofs.Common.{◌≡◌, ℕ, ◌*◌, ◌/◌, List, Bool, length, refl, sym, ap, ◌∙◌, subst, arith}
 use Rattle.asn1_bits.specs.Bits.{bits}
 use Rattle.asn1_schema.specs.declared.misfit.MisfitKind.TheVariants.{NoEncoding}
 use Rattle.asn1_schema.specs.Pieces.{Octets}
-use Rattle.asn1_schema.specs.PiecesOfParts.{joined}
+use Rattle.asn1_schema.specs.PiecesOfParts.{bits_at, joined}
 use Rattle.asn1_schema.specs.TypeEncodings.{leaf}
 use Rattle.asn1_x691.specs.Fragments.{most_fragments}
 use Rattle.asn1_x691_writers.specs.Joined.{bits_in}
@@ -68,6 +68,13 @@ returns c =
     record {
       written = leaf_written (string_of most_fragments aligned 8 size node) Octets node aligned list (Octets list) was now old new refl
           (subst (λ (l : List Bool). IsWritten aligned (string_of most_fragments aligned 8 size node) l was old now new) e
-          (c.put_joined_of-state.ensures node));
+          (subst (λ (u : ℕ). IsWritten aligned (string_of most_fragments aligned u size node) (bits_at whole 0 (u * (total / 8))) was old now new)
+          c.joined_of-joined.ensures.unit (c.put_joined_of-state.ensures node)));
       next = refl;
     }
+
+pub put_joined_of-state-requires-clause-all : goal.put_joined_of-state-requires-clause-all
+put_joined_of-state-requires-clause-all c =
+    let total = c.size_of-total.result in
+    let e = ap (λ (u : ℕ). u * (total / 8)) c.joined_of-joined.ensures.unit in
+    omega (arith, e, c.size_of-total.ensures.size, c.if-total-gt0.false)
