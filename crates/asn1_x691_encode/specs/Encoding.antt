@@ -8,7 +8,7 @@ use Rattle.asn1_schema.specs.declared.tables.Presence.{Presence}
 use Rattle.asn1_schema.specs.declared.tables.Node.{Node}
 use Rattle.asn1_schema.specs.declared.tables.Node.TheVariants as type
 use Rattle.asn1_schema.specs.declared.tables.Rows.{Rows}
-use Rattle.asn1_schema.specs.Pieces.{Piece, Parts, Count, UnknownChosen}
+use Rattle.asn1_schema.specs.Pieces.{Piece, Parts, UnknownChosen}
 use Rattle.asn1_schema.specs.TypeEncodings.{TypeEncoding, AfterHeader, both, header}
 use Rattle.asn1_x691.specs.Fragments.{most_fragments}
 use Rattle.asn1_x691.specs.Limits.{no_limits, IsOffOctet}

@@ -15,11 +15,13 @@ use Rattle.asn1_x691.specs.declared.fault.FaultKind.{FaultKind}
 use Rattle.asn1_x691.specs.Fragments.{most_fragments}
 use Rattle.asn1_x691.specs.Limits.{no_limits, bit_fragments}
 use Rattle.asn1_x691_writers.specs.declared.state.Writer.{Writer}
-use Rattle.asn1_x691_writers.specs.declared.state.Rejection.TheVariants.{Misfit}
-use Rattle.asn1_x691_writers.specs.Put.{IsPut, piece_in}
+use Rattle.asn1_x691_writers.specs.declared.contents.ContentsKind.{ContentsKind}
+use Rattle.asn1_x691_writers.specs.declared.contents.ContentsKind.TheVariants as kind
+use Rattle.asn1_x691_writers.specs.declared.state.Rejection.TheVariants.{Misfit, Unsupported}
+use Rattle.asn1_x691_writers.specs.Put.{IsPut, IsInFragments, piece_in}
 use Rattle.asn1_x691_writers.specs.Written.{IsWritten}
 use Rattle.asn1_x691_encode.specs.declared.context.Context.{Context}
-use Rattle.asn1_x691_encode.specs.Encoding.{defaults_in, tape, types, Outcome}
+use Rattle.asn1_x691_encode.specs.Encoding.{defaults_in, tape, types, node_of, IsFragmented, IsLater, Outcome}
 
 get_some : {A : Type 0} (list : List A) (i : ℕ) (x : A) → slice_get list i ≡ Some x → drop i list ≡ x ∷ drop (i + 1) list
 get_some list i x e =
@@ -133,3 +135,24 @@ at_node c node (suc d) o P some e f =
 pub same_limit : (has_names : Bool) → most_fragments ≡ bit_fragments no_limits has_names
 same_limit true = refl
 same_limit false = refl
+
+-- ---- parts that the encoder leaves
+
+pub after_leave : (c : Context) (A : ℕ → TypeEncoding FaultKind) (was : List ℕ) (old new : Writer) (node : ℕ) (n : Node) (r : Bool) → r ≡ false
+    → new.next ≡ old.next → new.node ≡ node → new.reason ≡ Unsupported → slice_get c.tables.nodes.now node ≡ Some n
+    → IsLater c old.next (Some n) → Outcome c A was old was new r
+after_leave c A was old new node n r e next at reason is later =
+    let nodes = c.tables.nodes.now in
+    let here : IsLater c new.next (slice_get nodes new.node) =
+    subst (λ (k : ℕ). IsLater c k (slice_get nodes new.node)) (sym next)
+    (subst (λ (k : ℕ). IsLater c old.next (slice_get nodes k)) (sym at)
+    (subst (λ (o : Option Node). IsLater c old.next o) (sym is) later)) in
+    subst (λ (b : Bool). Outcome c A was old was new b) (sym e) (inr (inl (reason, inl here)))
+
+-- identifiers and REAL in fragments
+pub contents_later : (c : Context) (next : ℕ) (k : ContentsKind) → (k ≡ kind.Utf8 → ⊥) → IsFragmented c IsInFragments next
+    → IsLater c next (Some (node_of k))
+contents_later c next kind.ObjectIdentifier other f = f
+contents_later c next kind.RelativeIdentifier other f = f
+contents_later c next kind.Utf8 other f = absurd (other refl)
+contents_later c next kind.Real other f = f
