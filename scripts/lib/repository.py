@@ -26,6 +26,7 @@ PACKAGES = {
     "cargo": "cargo",
     "cargo-clippy": "rust-clippy",
     "openssl": "openssl",
+    "node": "nodejs",
 }
 # What a check reads of a crate.
 PARTS = ("src", "specs", "proofs")
