@@ -150,6 +150,23 @@ export class Library {
     return code ? { code, place: this.word(place) } : { code: 0, text: this.text(room, this.word(answer)) };
   }
 
+  // Returns what a call makes of a text in UTF-8, or null: it writes at most two octets for each of the text and the
+  // count, and after that what `more` lists the offsets of.
+  made(name, before, text, ...more) {
+    const size = 2 * text.length + 8, { at, answer, room } = this.hold(text, size);
+    const others = more.map((it) => answer + it);
+    if (this.call(name, ...before, at, text.length, room, size, answer, ...others)) return null;
+    return new Uint8Array(this.calls.memory.buffer, room, this.word(answer)).slice();
+  }
+
+  // Returns the contents octets of an OBJECT IDENTIFIER's dotted text, or null.
+  identifierOf(text) {
+    const most = text.length + 1, width = 16 * Math.ceil(most / 4), { at, answer, room } = this.hold(text, width + 5 * most);
+    if (this.call('asn1v_oid_from_text', at, text.length, room, most, answer)) return null;
+    if (this.call('asn1v_oid_contents', room, this.word(answer), room + width, 5 * most, answer)) return null;
+    return new Uint8Array(this.calls.memory.buffer, room + width, this.word(answer)).slice();
+  }
+
   // Returns a time as `2026-12-01 08:30:00 UTC`, or null (X.690 11.7, 11.8).
   time(name, octets, { first, end }) {
     const { at, answer } = this.hold(octets);
@@ -276,5 +293,17 @@ export function* reading(library, octets, names = {}) {
     left = SOME;
     yield parts.length;
   }
+  return parts;
+}
+
+// Adds to each part its parent, its children, its index among these and whether they are shown.
+export function treeOf(parts) {
+  const around = [], top = [];
+  parts.forEach((part, i) => {
+    while (around.length && parts[around.at(-1)].level >= part.level) around.pop();
+    const parent = around.at(-1) ?? -1, kin = parent < 0 ? top : parts[parent].children;
+    Object.assign(part, { parent, kin, children: [], isOpen: true, index: kin.push(i) });
+    around.push(i);
+  });
   return parts;
 }

@@ -1,7 +1,8 @@
 // The page: a tree of the parts of a value beside its octets. Only rows that are in view are in the document.
 import { FORMS, base64Of, octetsOf } from './text.mjs';
 import { IDENTIFIERS } from './identifiers.mjs';
-import { Library, nameOf, reading } from './decode.mjs';
+import { Library, nameOf, reading, treeOf } from './decode.mjs';
+import { editable, edited, tagEnd } from './encode.mjs';
 
 const HEIGHT = 22;
 const byId = (id) => document.getElementById(id);
@@ -66,18 +67,6 @@ let library;
 
 // ---- parts as a tree
 
-// Adds to each part its parent, its children, its index among these and whether they are shown.
-function treeOf(parts) {
-  const around = [], top = [];
-  parts.forEach((part, i) => {
-    while (around.length && parts[around.at(-1)].level >= part.level) around.pop();
-    const parent = around.at(-1) ?? -1, kin = parent < 0 ? top : parts[parent].children;
-    Object.assign(part, { parent, kin, children: [], isOpen: true, index: kin.push(i) });
-    around.push(i);
-  });
-  return parts;
-}
-
 // Returns the parts whose parents show their children.
 function shownOf(parts) {
   const shown = [];
@@ -119,17 +108,10 @@ const tree = new Rows(byId('tree'), (row) => {
 
 // ---- octets
 
-// Returns where the identifier octets of a part end.
-function tagEnd(part) {
-  let at = part.start;
-  if ((state.octets[at++] & 31) === 31) while (at < part.first && state.octets[at++] & 128);
-  return at;
-}
-
 function classOf(at, part, hovered) {
   const names = ['octet'];
   if (part && at >= part.start && at < part.end)
-    names.push(part.code ? 'contents' : at < tagEnd(part) ? 'tag' : at < part.first ? 'length' : 'contents');
+    names.push(part.code ? 'contents' : at < tagEnd(state.octets, part) ? 'tag' : at < part.first ? 'length' : 'contents');
   if (hovered && at >= hovered.start && at < hovered.end) names.push('hovered');
   if (part?.fault && at >= part.first && at < part.end) names.push('wrong');
   if (at === state.cursor) names.push('cursor');
@@ -200,7 +182,7 @@ function describe(part) {
   const path = [];
   for (let it = part; it; it = state.parts[it.parent]) path.unshift(nameOf(it) || 'fault');
   box.append(make('strong', '', path.join(' › ')));
-  const tag = part.code ? 0 : tagEnd(part) - part.start;
+  const tag = part.code ? 0 : tagEnd(state.octets, part) - part.start;
   const where = part.code
     ? `from octet ${part.start}, in contents that end before octet ${part.end}`
     : `from octet ${part.start}: ${tag} of the tag, ${part.first - part.start - tag} of the length, ${part.end - part.first} of the contents`;
@@ -208,6 +190,29 @@ function describe(part) {
   if (part.isGuessed) box.append(make('div', 'quiet', 'Octets or bits that can be read as DER. Whether they are meant so, the type says.'));
   const text = part.fault ? `✗ ${part.fault}` : summary(part);
   if (text && !part.isConstructed) box.append(make('code', part.fault ? 'wrong' : '', text));
+  const value = editable(library, state.octets, part);
+  if (value !== null) box.append(editor(value));
+}
+
+// Returns a field for another value of the selected part. Enter encodes it.
+function editor(value) {
+  const form = make('form'), label = make('label', '', 'Another value: '), field = make('input');
+  Object.assign(field, { value, spellcheck: false, autocomplete: 'off' });
+  label.append(field);
+  form.append(label, make('button', '', 'Encode'));
+  form.addEventListener('submit', async (event) => {
+    event.preventDefault();
+    try {
+      const at = state.parts[state.chosen].start;
+      const octets = edited(library, state.octets, state.parts, state.chosen, field.value);
+      byId('value').value = FORMS.hexadecimal(octets);
+      await decode(octets, 'edited');
+      choose(partAt(Math.min(at, octets.length - 1)));
+    } catch (error) {
+      say(`✗ ${error.message}`, true);
+    }
+  });
+  return form;
 }
 
 // Returns the deepest part at an octet.

@@ -1,19 +1,32 @@
-// Prints what the page reads, for scripts/check-page: a line of JSON for each line of hexadecimal digits.
+// Prints what the page reads, for scripts/check-page: a line of JSON for each line of hexadecimal digits. After the
+// digits a line may have `|`, the index of a part and its new text: then the line of JSON is the octets that it becomes.
 // usage: node --experimental-wasm-memory64 print.mjs MODULE < LINES
 import { readFileSync } from 'node:fs';
-import { Library, elements, nameOf, reading } from './decode.mjs';
+import { Library, elements, nameOf, reading, treeOf } from './decode.mjs';
+import { editable, edited } from './encode.mjs';
 import { FORMS, octetsOf } from './text.mjs';
 import { IDENTIFIERS } from './identifiers.mjs';
 
+const hexOf = FORMS.hexadecimal;
 const library = await Library.load(readFileSync(process.argv[2]));
 for (const line of readFileSync(0, 'utf8').split('\n').filter(Boolean)) {
-  const { octets } = octetsOf(line);
+  const [digits, index, text] = line.split('|'), { octets } = octetsOf(digits);
   for (const [name, form] of Object.entries(FORMS))
-    if (name !== 'C array' && FORMS.hexadecimal(octetsOf(form(octets)).octets) !== FORMS.hexadecimal(octets)) throw new Error(name);
+    if (name !== 'C array' && hexOf(octetsOf(form(octets)).octets) !== hexOf(octets)) throw new Error(name);
   const steps = reading(library, octets, IDENTIFIERS);
   let step = steps.next();
   while (!step.done) step = steps.next();
-  const rows = step.value.map((it) => ({
+  const parts = treeOf(step.value);
+  parts.forEach((part, i) => {
+    const text = part.fault ? null : editable(library, octets, part);
+    if (text === null) return;
+    if (hexOf(edited(library, octets, parts, i, text)) !== hexOf(octets)) throw new Error(`${line}: ${text} is edited`);
+  });
+  if (index) {
+    console.log(JSON.stringify(hexOf(edited(library, octets, parts, Number(index), text))));
+    continue;
+  }
+  const rows = parts.map((it) => ({
     level: it.level,
     start: it.start,
     first: it.first,

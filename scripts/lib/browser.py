@@ -172,6 +172,11 @@ def checks(page, url, expected, certificate):
     page.open(f"{url}#{'MAMCAQU'}")
     wait(lambda: page.run(VERDICT).startswith("base64: 5 octets"))
     yield None if [it.split() for it in rows_of(page)] == [["SEQUENCE", "(1)"], ["INTEGER", "5"]] else f"{url}: a link"
+    page.run("document.querySelectorAll('#tree .row')[1].click()")
+    page.run("document.querySelector('#detail input').value = '128'; document.querySelector('#detail form').requestSubmit()")
+    wait(lambda: page.run(VERDICT).startswith("edited: 6 octets"))
+    value = page.run("return document.getElementById('value').value")
+    yield None if value == "300402020080" else f"{url}: another value is {value}"
     yield None if page.run("return window.broken ?? []") == [] else f"{url}: {page.run('return window.broken')}"
 
 
