@@ -1,7 +1,7 @@
 // Encodes the value of a primitive element anew, and the elements around it, whose lengths follow. The contents octets
 // of numbers, identifiers and restricted strings are made by the library. What is made is decoded again by the page.
 import { KINDS, UNIVERSAL, tagOf } from './decode.mjs';
-import { octetsOf } from './text.mjs';
+import { joined, octetsOf } from './text.mjs';
 
 // Returns the text of a value as it is edited, or null for one that is not edited.
 export function editable(library, octets, part) {
@@ -61,16 +61,6 @@ function lengthOf(count) {
   const digits = [];
   for (let left = count; left > 0; left = Math.floor(left / 256)) digits.unshift(left % 256);
   return [128 + digits.length, ...digits];
-}
-
-function joined(...pieces) {
-  const made = new Uint8Array(pieces.reduce((sum, it) => sum + it.length, 0));
-  let at = 0;
-  for (const it of pieces) {
-    made.set(it, at);
-    at += it.length;
-  }
-  return made;
 }
 
 // Returns where the identifier octets of an element end.

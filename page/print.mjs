@@ -12,7 +12,9 @@ const library = await Library.load(readFileSync(process.argv[2]));
 for (const line of readFileSync(0, 'utf8').split('\n').filter(Boolean)) {
   const [digits, index, text] = line.split('|'), { octets } = octetsOf(digits);
   for (const [name, form] of Object.entries(FORMS))
-    if (name !== 'C array' && hexOf(octetsOf(form(octets)).octets) !== hexOf(octets)) throw new Error(name);
+    if (name !== 'C array' && octets.length && hexOf(octetsOf(form(octets)).octets) !== hexOf(octets)) throw new Error(name);
+  const twice = octetsOf(FORMS.PEM(octets) + FORMS.PEM(octets)).octets;
+  if (hexOf(twice) !== hexOf(octets) + hexOf(octets)) throw new Error('two blocks of PEM');
   const steps = reading(library, octets, IDENTIFIERS);
   let step = steps.next();
   while (!step.done) step = steps.next();

@@ -1,9 +1,13 @@
 // Octets from text that is pasted, and text from octets.
 
-// Returns the octets that a text says, and the name of its form: PEM (RFC 7468), hexadecimal or base64 (RFC 4648).
+// Returns the octets that a text says, and the name of its form: PEM (RFC 7468), whose blocks follow one another,
+// hexadecimal or base64 (RFC 4648).
 export function octetsOf(text) {
-  const pem = text.match(/-----BEGIN ([^-\n]*)-----([^]*?)-----END \1-----/);
-  if (pem) return { octets: ofBase64(pem[2].replace(/^[\w-]+:.*$/gm, '')), form: `PEM, ${pem[1]}` };
+  const blocks = [...text.matchAll(/-----BEGIN ([^-\n]*)-----([^]*?)-----END \1-----/g)];
+  if (blocks.length) {
+    const octets = joined(...blocks.map((it) => ofBase64(it[2].replace(/^[\w-]+:.*$/gm, ''))));
+    return { octets, form: `PEM, ${[...new Set(blocks.map((it) => it[1]))].join(', ')}` };
+  }
   const bare = text.replace(/0x|[\s:,]/gi, '');
   if (bare && /^[0-9a-f]+$/i.test(bare)) {
     if (bare.length % 2) throw new Error('a hexadecimal digit is missing');
@@ -18,6 +22,17 @@ function ofBase64(text) {
   if (bad >= 0) throw new Error(`this is neither PEM, hexadecimal nor base64: ${bare.slice(bad, bad + 8)}`);
   if (bare.length % 4 === 1) throw new Error('a character of base64 is missing');
   return Uint8Array.from(atob(bare), (it) => it.charCodeAt(0));
+}
+
+// Returns octets that follow one another.
+export function joined(...pieces) {
+  const made = new Uint8Array(pieces.reduce((sum, it) => sum + it.length, 0));
+  let at = 0;
+  for (const it of pieces) {
+    made.set(it, at);
+    at += it.length;
+  }
+  return made;
 }
 
 export function base64Of(octets) {
