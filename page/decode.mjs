@@ -252,9 +252,12 @@ export function valueOf(library, octets, part, names = {}) {
     case 23:
       return valid(library.time('asn1v_der_utc_time', octets, part));
     case 24: {
-      // The library reads times without a fraction of a second. Others are printed as their characters.
-      const time = library.time('asn1v_der_generalized_time', octets, part);
-      return { text: time ?? quoted(String.fromCharCode(...held.subarray(0, MOST_TEXT))) };
+      // The library reads times without a fraction of a second, so a fraction (X.690 11.7.3) is cut out first.
+      const fraction = held.length < 100 && String.fromCharCode(...held).match(/^(\d{14})(\.\d*[1-9])Z$/);
+      if (!fraction) return valid(library.time('asn1v_der_generalized_time', octets, part));
+      const whole = new TextEncoder().encode(`${fraction[1]}Z`);
+      const time = library.time('asn1v_der_generalized_time', whole, { first: 0, end: whole.length });
+      return valid(time && time.replace(' UTC', `${fraction[2]} UTC`));
     }
   }
   if (tag in KINDS) {
