@@ -28,6 +28,8 @@ export const KINDS = { 30: 0, 27: 1, 25: 2, 22: 3, 18: 4, 19: 5, 20: 6, 26: 7 };
 
 // An INTEGER of more octets is printed in hexadecimal: its decimal text takes time quadratic in its length.
 const MOST_DECIMAL = 512;
+// A BIT STRING of more bits is printed in hexadecimal, a shorter one as its bits (X.680 22.10).
+const MOST_BITS = 32;
 // The most characters of a string that are printed.
 const MOST_TEXT = 400;
 // How many elements are read before others may run.
@@ -234,7 +236,9 @@ export function valueOf(library, octets, part, names = {}) {
       return held.length > MOST_DECIMAL ? { text: `${8 * held.length} bits: ${hex(held)}` } : valid(library.integer(octets, part));
     case 3: {
       const { code, number } = library.number('asn1v_der_bit_string', octets, part);
-      return valid(code ? null : `${number} bits${number ? `: ${hex(held.subarray(1))}` : ''}`);
+      if (code || number > MOST_BITS) return valid(code ? null : `${number} bits: ${hex(held.subarray(1))}`);
+      const bits = Array.from(held.subarray(1), (it) => it.toString(2).padStart(8, '0')).join('');
+      return { text: `'${bits.slice(0, number)}'B` };
     }
     case 5:
       return valid(held.length ? null : '');
