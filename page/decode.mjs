@@ -1,6 +1,7 @@
-// Reads DER by the proved library for C, compiled to WebAssembly. What an element is, and what its contents mean, the
-// library alone decides, except for a UTF8String, which the browser decodes. This file lays out memory, calls the
-// library, and keeps what it returns. It is tested by scripts/check-page, and not proved.
+// Reads DER by the proved library for C, compiled to WebAssembly. The library decides what an element is, and reads
+// BOOLEAN, INTEGER, ENUMERATED, BIT STRING, OBJECT IDENTIFIER, restricted strings and times. This file checks NULL,
+// UTF8String and the fraction of a time. Other contents are shown in hexadecimal and not checked, and neither is
+// whether a universal type is primitive or constructed. This file is tested by scripts/check-page, and not proved.
 
 // The codes of bindings/c/asn1_codes.h that a call used here returns. scripts/check-page compares them.
 export const CODES = {
@@ -213,7 +214,7 @@ export function nameOf(part) {
   return `[${['', 'APPLICATION ', '', 'PRIVATE '][part.class]}${part.number}]`;
 }
 
-// Returns what is wrong with a part whose code says so.
+// Returns the text of the fault of a part that is no element.
 export function faultOf(part) {
   return FAULTS[part.code] ?? `code ${part.code}`;
 }
