@@ -9,7 +9,11 @@ use base64::DecodeAllocError;
 use base64::engine::general_purpose::STANDARD;
 use hex::FromHexError;
 use std::alloc::{AllocError, AllocFailed, Global};
+use std::simd::prelude::*;
 use thiserror::Error;
+
+/// How many octets are examined at a time.
+const GROUP: usize = 16;
 
 /// A form of octets.
 #[derive(Clone, Copy, Debug, PartialEq, Eq)]
@@ -204,6 +208,27 @@ fn octets_of_hex(alloc: Global, input: &[u8]) -> Result<Vec<u8>, FormError> {
     }
 }
 
+/// Returns how many octets precede the first one from `least` to `greatest`, or how many there are if none is.
+pub fn count_before(octets: &[u8], least: u8, greatest: u8) -> usize {
+    let (groups, _) = octets.as_chunks::<GROUP>();
+    let mut count = 0usize;
+    for group in groups {
+        let group = u8x16::from_array(*group);
+        let is_end = group.simd_ge(u8x16::splat(least)) & group.simd_le(u8x16::splat(greatest));
+        if is_end.any() {
+            break;
+        }
+        count = count.saturating_add(GROUP);
+    }
+    for octet in octets.get(count..).unwrap_or(&[]) {
+        if least <= *octet && *octet <= greatest {
+            break;
+        }
+        count = count.saturating_add(1);
+    }
+    count
+}
+
 /// Returns whether an octet is a character of Base64, or its padding.
 fn is_of_base64(octet: u8) -> bool {
     octet.is_ascii_alphanumeric() || octet == b'+' || octet == b'/' || octet == b'='
@@ -216,23 +241,32 @@ fn is_of_base64(octet: u8) -> bool {
 ///
 /// Returns the first octet that is not of Base64, or the end of what encodes no octets.
 pub fn octets_of_base64(alloc: Global, input: &[u8], from: usize) -> Result<Vec<u8>, FormError> {
-    let mut characters = Vec::new(alloc);
-    for (index, octet) in input.iter().enumerate() {
-        if is_of_base64(*octet) {
-            characters.push(*octet)?;
-        } else if !is_white(*octet) {
-            let at = from.saturating_add(index);
-            return Err(form_error(at, FormProblem::NotBase64));
+    let mut characters = Vec::with_capacity(alloc, input.len())?;
+    let mut rest = input;
+    for _ in 0..input.len() {
+        let count = count_before(rest, 0, 32);
+        characters.extend_from_slice(rest.get(..count).unwrap_or(&[]))?;
+        match rest.get(count..).unwrap_or(&[]) {
+            [first, others @ ..] if is_white(*first) => rest = others,
+            [] => break,
+            _ => return Err(fault_of_base64(input, from)),
         }
     }
     match STANDARD.decode(alloc, characters.as_slice()) {
         Ok(octets) => Ok(octets),
         Err(DecodeAllocError::OutOfMemory) => Err(form_error(0, FormProblem::Memory)),
-        Err(_) => {
-            let at = from.saturating_add(input.len());
-            Err(form_error(at, FormProblem::Base64))
+        Err(_) => Err(fault_of_base64(input, from)),
+    }
+}
+
+/// Returns the error of octets that are not of Base64, or of all that encode no octets.
+fn fault_of_base64(input: &[u8], from: usize) -> FormError {
+    for (index, octet) in input.iter().enumerate() {
+        if !is_of_base64(*octet) && !is_white(*octet) {
+            return form_error(from.saturating_add(index), FormProblem::NotBase64);
         }
     }
+    form_error(from.saturating_add(input.len()), FormProblem::Base64)
 }
 
 /// Returns octets in a form. Lines of text end with the end of a line; `label` is that of a block of

@@ -1,6 +1,6 @@
 //! Blocks of Base64 with labels (RFC 7468).
 
-use crate::forms::{FormError, FormProblem, form_error, octets_of_base64};
+use crate::forms::{FormError, FormProblem, count_before, form_error, octets_of_base64};
 use base64::engine::general_purpose::STANDARD;
 use std::alloc::{AllocError, Global};
 
@@ -46,6 +46,9 @@ fn label_of<'a>(line: &'a [u8], word: &[u8]) -> Option<&'a [u8]> {
 
 /// Returns what a line is.
 fn line_of(octets: &[u8]) -> Line<'_> {
+    if octets.first() != Some(&b'-') {
+        return Line::Other;
+    }
     let line = trimmed(octets);
     if let Some(label) = label_of(line, b"-----BEGIN ") {
         return Line::Begin(label);
@@ -66,7 +69,11 @@ pub fn blocks_of(alloc: Global, text: &[u8]) -> Result<Vec<Vec<u8>>, FormError> 
     let mut blocks = Vec::new(alloc);
     let mut open: Option<Block<'_>> = None;
     let mut at = 0usize;
-    for line in text.split(|octet| *octet == b'\n') {
+    for _ in 0..=text.len() {
+        let Some(rest) = text.get(at..) else {
+            break;
+        };
+        let line = rest.get(..count_before(rest, b'\n', b'\n')).unwrap_or(rest);
         let next = at.saturating_add(line.len()).saturating_add(1);
         match (line_of(line), open) {
             (Line::Other, _) => {}

@@ -12,7 +12,7 @@ const MAX_WORK: usize = 1 << 20;
 
 /// What the values of a constraint are.
 #[derive(Clone, Copy, PartialEq, Eq)]
-enum Role {
+pub(crate) enum Role {
     /// Values of an INTEGER, whose names of numbers they can use, or sizes.
     Numbers(Option<Place>),
     /// Characters, up to the greatest of their type.
@@ -37,8 +37,8 @@ fn role_of(scope: Scope<'_>, base: Place) -> Role {
 
 /// The steps that are left.
 #[derive(Drop)]
-struct Work {
-    left: usize,
+pub(crate) struct Work {
+    pub(crate) left: usize,
 }
 
 /// Returns what the constraints of a type permit (X.691 10.3), with those of the types that it refers
@@ -77,7 +77,11 @@ impl<'r> Scope<'r> {
     }
 
     /// Returns the numbers of a value or a range.
-    fn numbers(self, place: Place, governor: Option<Place>) -> Result<Hull, NotationError> {
+    pub(crate) fn numbers(
+        self,
+        place: Place,
+        governor: Option<Place>,
+    ) -> Result<Hull, NotationError> {
         let (first, last) = self.ends(place);
         let Some(last) = last else {
             let number = self.number(first, governor)?;
@@ -212,7 +216,7 @@ impl<'r> Scope<'r> {
 
     /// Returns the one element that a constraint, a union or an intersection has, if there is only one, through
     /// any number of them. Otherwise returns its argument.
-    fn only_element(self, place: Place) -> Place {
+    pub(crate) fn only_element(self, place: Place) -> Place {
         let mut only = place;
         for _ in 0..self.most() {
             match self.item(only) {
@@ -363,6 +367,10 @@ impl<'r> Scope<'r> {
                 continue;
             }
             let only = self.only_element(part);
+            if self.limit(&mut found, only, role, work, steps)? {
+                self.check_some(&found, part)?;
+                continue;
+            }
             let last = self.of_element(only, role, work, steps - 1)?;
             self.check_some(&last, only)?;
             found = found.followed_by(last);

@@ -244,16 +244,14 @@ fn has_node(scope: Scope<'_>, place: Place) -> Result<bool, NotationError> {
 /// or [`Problem::Duplicate`] if the importing module also defines the name: the first of them in the order
 /// of the text.
 pub fn check_imports(scope: Scope<'_>) -> Result<(), NotationError> {
-    let mut module = 0usize;
-    for index in 0..scope.most() {
-        let place = Place {
-            module,
-            index,
-            instance: 0,
+    let mut walk = scope.walk(0);
+    for _ in 0..scope.most() {
+        let Some(place) = walk.next(scope) else {
+            break;
         };
         match scope.item(place) {
-            Item::Module => module = index,
             Item::Imports => check_group(scope, place)?,
+            item if item.is_definition() => walk.skip_inside(scope, place),
             _ => {}
         }
     }

@@ -62,10 +62,19 @@ impl Walk {
         }
         let found = self.place;
         self.place.index = self.place.index.saturating_add(1);
-        if found.instance == 0 && scope.is_parameterized(found) {
+        if found.instance == 0
+            && entry.item.is_definition()
+            && end_of_parameters(scope.tape, found.index).is_some()
+        {
             self.place.index = wide(entry.end).max(self.place.index);
         }
         Some(found)
+    }
+
+    /// Skips the entries inside one that was returned.
+    pub fn skip_inside(&mut self, scope: Scope<'_>, place: Place) {
+        let end = wide(scope.entry(place.index).end);
+        self.place.index = self.place.index.max(end);
     }
 }
 

@@ -10,6 +10,7 @@ mod hash;
 mod imports;
 mod index;
 mod instances;
+mod limits;
 mod names;
 mod numbers;
 mod object_sets;

@@ -155,11 +155,23 @@ impl Permitted {
     /// Returns what the constraint `last` permits on a type with this constraint. Only the last
     /// constraint makes a type extensible (X.680 50).
     pub fn followed_by(self, last: Permitted) -> Permitted {
-        if last == EVERYTHING {
+        if last.values.is_none() && last.sizes.is_none() && last.alphabet.is_none() {
             self
         } else {
             self.without_marker().and(last)
         }
+    }
+
+    /// Adds a last constraint that permits values alone, as `followed_by` does.
+    pub(crate) fn limit_values(&mut self, last: Hull) {
+        self.values = both(marked(self.values, false), Some(last));
+        self.sizes = marked(self.sizes, false);
+    }
+
+    /// Adds a last constraint that permits sizes alone, as `followed_by` does.
+    pub(crate) fn limit_sizes(&mut self, last: Hull) {
+        self.values = marked(self.values, false);
+        self.sizes = both(marked(self.sizes, false), Some(last));
     }
 
     /// Returns the same without extension markers.
@@ -181,7 +193,7 @@ impl Permitted {
     }
 
     /// Returns whether nothing is permitted.
-    pub fn is_empty(self) -> bool {
+    pub fn is_empty(&self) -> bool {
         let has_no_value = match self.values {
             Some(values) => values.is_empty(),
             None => false,
@@ -190,7 +202,7 @@ impl Permitted {
             Some(sizes) => sizes.is_empty(),
             None => false,
         };
-        let has_no_character = match self.alphabet {
+        let has_no_character = match &self.alphabet {
             Some(characters) => characters.is_empty(),
             None => false,
         };

@@ -4,6 +4,16 @@ use asn1_bits::{BitReader, BitStr, to_bitstring};
 use asn1_schema::{Fragments, Span};
 use std::alloc::{AllocError, Global};
 
+/// Returns the octets of a message that a span of bits is. `None` if the span does not begin and end with octets, or the
+/// message is shorter.
+pub(crate) fn whole_octets(message: &[u8], span: Span) -> Option<&[u8]> {
+    if span.at % 8 != 0 || span.count % 8 != 0 {
+        return None;
+    }
+    let from = span.at / 8;
+    message.get(from..from.checked_add(span.count / 8)?)
+}
+
 /// Returns the octets of a span of bits, the last one filled with zeros. `None` if the message is
 /// shorter.
 pub(crate) fn octets_of(

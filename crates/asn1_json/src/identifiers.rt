@@ -13,6 +13,50 @@ pub(crate) fn dotted_of(alloc: Global, contents: &[u8]) -> Result<Option<String>
     }
 }
 
+/// Appends the decimal digits of a number.
+fn append_decimal(number: u32, text: &mut Vec<u8>) -> Result<(), AllocError> {
+    let mut digits = [b'0'; 10];
+    let mut left = number;
+    let mut first = digits.len();
+    for (index, digit) in digits.iter_mut().enumerate().rev() {
+        *digit = b'0' + (left % 10) as u8;
+        left /= 10;
+        first = index;
+        if left == 0 {
+            break;
+        }
+    }
+    text.extend_from_slice(digits.get(first..).unwrap_or(&[]))
+}
+
+/// Appends the arcs of an OBJECT IDENTIFIER in decimal, joined by full stops, if each subidentifier has at most
+/// four octets. Returns whether they have, and are contents of an identifier.
+pub(crate) fn append_short_dotted(contents: &[u8], text: &mut Vec<u8>) -> Result<bool, AllocError> {
+    let mut arc = 0u32;
+    let mut is_inside = false;
+    let mut is_first = true;
+    for octet in contents {
+        if arc >= 1 << 21 || (!is_inside && *octet == 128) {
+            return Ok(false);
+        }
+        arc = arc * 128 + u32::from(*octet % 128);
+        is_inside = *octet > 127;
+        if is_inside {
+            continue;
+        }
+        if is_first {
+            let first = (arc / 40).min(2);
+            text.push(b'0' + first as u8)?;
+            arc -= 40 * first;
+            is_first = false;
+        }
+        text.push(b'.')?;
+        append_decimal(arc, text)?;
+        arc = 0;
+    }
+    Ok(!is_inside && !is_first)
+}
+
 /// Appends the contents octets of an OBJECT IDENTIFIER. Returns whether the text is one: arcs in
 /// decimal, joined by full stops.
 pub(crate) fn append_dotted(

@@ -1,12 +1,11 @@
 //! Prints values of one part.
 
-use crate::bits::{number_of, octets_in, octets_of, size_in, unsigned_octets_of};
+use crate::bits::{number_of, octets_in, octets_of, size_in, unsigned_octets_of, whole_octets};
 use crate::decimal::decimal_of;
-use crate::hexadecimal::hex_of;
 use crate::identifiers::{dotted_of, relative_of};
 use crate::print::PrintError;
 use crate::printer::{NO_VALUE, Printer};
-use crate::strings::text_of;
+use crate::strings::{ascii_of, text_of};
 use asn1_schema::{Length, Natural, Node, Part, Span};
 use std::str;
 
@@ -20,8 +19,8 @@ const NO_CHARACTER: PrintError = PrintError::Unsupported(
 
 impl<'a> Printer<'a> {
     /// Prints a value of one part, of the type at a node.
-    pub(crate) fn leaf(&mut self, node: usize, of: Node, at: usize) -> Result<(), PrintError> {
-        match self.part(at)? {
+    pub(crate) fn leaf(&mut self, node: usize, of: &Node, at: usize) -> Result<(), PrintError> {
+        match *self.parts.get(at).ok_or(NO_VALUE)? {
             Part::Null => self.null(),
             Part::Truth(truth) => self.truth(truth),
             Part::Integer(number) => self.number(format!(in self.alloc; "{number}")?.as_str()),
@@ -37,7 +36,11 @@ impl<'a> Printer<'a> {
             Part::UnknownEnumerated(index) => self.unknown_enumeral(index),
             Part::Unknown(_) if matches!(of, Node::Enumerated { .. }) => self.other_enumeral(at),
             Part::Bits(span) => {
-                let octets = octets_of(self.alloc, self.message, span)?.ok_or(NO_VALUE)?;
+                let message = self.message;
+                if let Some(octets) = whole_octets(message, span) {
+                    return self.bit_string(of, octets, span.count);
+                }
+                let octets = octets_of(self.alloc, message, span)?.ok_or(NO_VALUE)?;
                 self.bit_string(of, octets.as_slice(), span.count)
             }
             Part::BitsInFragments(fragments) => {
@@ -46,7 +49,11 @@ impl<'a> Printer<'a> {
                 self.bit_string(of, octets.as_slice(), count)
             }
             Part::Octets(span) => {
-                let octets = octets_of(self.alloc, self.message, span)?.ok_or(NO_VALUE)?;
+                let message = self.message;
+                if let Some(octets) = whole_octets(message, span) {
+                    return self.octets(of, octets);
+                }
+                let octets = octets_of(self.alloc, message, span)?.ok_or(NO_VALUE)?;
                 self.octets(of, octets.as_slice())
             }
             Part::OctetsInFragments(fragments) => {
@@ -54,8 +61,12 @@ impl<'a> Printer<'a> {
                 self.octets(of, octets.as_slice())
             }
             Part::Text(characters) => {
+                let message = self.message;
+                if let Some(text) = ascii_of(message, characters) {
+                    return self.string(text);
+                }
                 let ranges = self.schema.tables().ranges;
-                let text = text_of(self.alloc, self.message, ranges, characters)?;
+                let text = text_of(self.alloc, message, ranges, characters)?;
                 self.string(text.ok_or(NO_CHARACTER)?.as_str())
             }
             _ => Err(NO_VALUE),
@@ -64,7 +75,11 @@ impl<'a> Printer<'a> {
 
     /// Prints an INTEGER in octets of two's complement.
     fn signed(&mut self, span: Span) -> Result<(), PrintError> {
-        let octets = octets_of(self.alloc, self.message, span)?.ok_or(NO_VALUE)?;
+        let message = self.message;
+        if let Some(octets) = whole_octets(message, span) {
+            return self.number(decimal_of(self.alloc, octets)?.as_str());
+        }
+        let octets = octets_of(self.alloc, message, span)?.ok_or(NO_VALUE)?;
         self.number(decimal_of(self.alloc, octets.as_slice())?.as_str())
     }
 
@@ -127,27 +142,29 @@ impl<'a> Printer<'a> {
 
     /// Prints a BIT STRING of `count` bits: the hexadecimal digits if its size is fixed, otherwise an object that
     /// also has the number of bits.
-    fn bit_string(&mut self, of: Node, octets: &[u8], count: usize) -> Result<(), PrintError> {
+    fn bit_string(&mut self, of: &Node, octets: &[u8], count: usize) -> Result<(), PrintError> {
         if let Some(out) = self.notation() {
             return Ok(out.bits(octets, count)?);
         }
-        let digits = hex_of(self.alloc, octets)?;
-        if is_fixed(of) {
-            return self.digits(digits.as_str());
+        if is_fixed(*of) {
+            return self.hex(octets);
         }
         self.begin_object()?;
         self.key("value")?;
-        self.digits(digits.as_str())?;
+        self.hex(octets)?;
         self.key("length")?;
         self.natural(Natural::Small(count as u64))?;
         self.end_object()
     }
 
     /// Prints octets, by what their type is.
-    fn octets(&mut self, of: Node, octets: &[u8]) -> Result<(), PrintError> {
+    fn octets(&mut self, of: &Node, octets: &[u8]) -> Result<(), PrintError> {
         match of {
-            Node::OctetString { .. } => self.digits(hex_of(self.alloc, octets)?.as_str()),
+            Node::OctetString { .. } => self.hex(octets),
             Node::ObjectIdentifier => {
+                if self.short_identifier(octets)? {
+                    return Ok(());
+                }
                 let text = dotted_of(self.alloc, octets)?.ok_or(LARGE_ARC)?;
                 self.identifier(text.as_str())
             }
@@ -170,7 +187,7 @@ impl<'a> Printer<'a> {
             return Err(NO_VALUE);
         };
         let octets = octets_of(self.alloc, self.message, span)?.ok_or(NO_VALUE)?;
-        self.digits(hex_of(self.alloc, octets.as_slice())?.as_str())
+        self.hex(octets.as_slice())
     }
 
     /// Prints the octets of an addition that the schema does not know, or `null` if it is absent.

@@ -136,21 +136,22 @@ impl<'a> Printer<'a> {
         if depth == 0 {
             return Err(PrintError::TooDeep);
         }
-        match self.node(node)? {
+        let schema = self.schema;
+        match schema.tables().nodes.get(node).ok_or(NO_VALUE)? {
             Node::Sequence {
                 root,
                 additions,
                 ..
-            } => self.sequence(depth - 1, root, additions, at),
+            } => self.sequence(depth - 1, *root, *additions, at),
             Node::SequenceOf { item, .. } | Node::SetOf { item, .. } => {
-                self.list(depth - 1, item, at)
+                self.list(depth - 1, *item, at)
             }
             Node::Choice {
                 alternatives,
                 additions,
                 ..
-            } => self.choice(depth - 1, alternatives, additions, at),
-            Node::Open { inner } => self.value(depth - 1, inner, at),
+            } => self.choice(depth - 1, *alternatives, *additions, at),
+            Node::Open { inner } => self.value(depth - 1, *inner, at),
             leaf => {
                 match self.contents_at(at) {
                     Some((index, contents)) => {
@@ -228,19 +229,18 @@ impl<'a> Printer<'a> {
     /// Prints a component, if it is present. An addition group is printed as its components.
     #[cycle(printing)]
     fn component(&mut self, depth: usize, row: usize, at: usize) -> Result<usize, PrintError> {
-        let part = self.part(at)?;
-        if part == Part::Absent {
+        let part = self.parts.get(at).ok_or(NO_VALUE)?;
+        if let Part::Absent = part {
             return Ok(at.saturating_add(1));
         }
         let node = self.member(row)?.node;
-        if self.is_named(row) {
-            self.member_key(row)?;
+        if self.member_key(row)? {
             return self.value(depth, node, at);
         }
         if depth == 0 {
             return Err(PrintError::TooDeep);
         }
-        match (part, self.node(node)?) {
+        match (*part, self.node(node)?) {
             (Part::Sequence { count, .. }, Node::Sequence { root, .. }) => {
                 self.components(depth - 1, root, count, at.saturating_add(1))
             }

@@ -2,6 +2,8 @@
 
 ghost use Rattle.std.specs.Str.{IsUtf8};
 
+use crate::hexadecimal::hex_in;
+use crate::identifiers::append_short_dotted;
 use crate::notation::Notation;
 use crate::opens::Contents;
 use crate::print::PrintError;
@@ -24,6 +26,10 @@ pub(crate) struct Printer<'a> {
     out: Pretty,
     /// The value notation, if that is printed and not JSON.
     notation: Option<Notation>,
+    /// Room for hexadecimal digits.
+    digits: Vec<u8>,
+    /// Room for the arcs of an identifier.
+    arcs: Vec<u8>,
 }
 
 /// The name of the member that has the contents of an open type.
@@ -49,6 +55,8 @@ impl<'a> Printer<'a> {
             inside: 0,
             out: Pretty::new(alloc),
             notation: None,
+            digits: Vec::new(alloc),
+            arcs: Vec::new(alloc),
         }
     }
 
@@ -123,19 +131,14 @@ impl<'a> Printer<'a> {
             .ok_or(NO_VALUE)
     }
 
-    /// Returns whether a component or an alternative has a name. An addition group has none.
-    pub(crate) fn is_named(&self, row: usize) -> bool {
-        match self.schema.names().of_member(row) {
-            Some(name) => !name.is_empty(),
-            None => false,
+    /// Prints the name of a component as a key, and returns whether it has one. An addition group has none.
+    pub(crate) fn member_key(&mut self, row: usize) -> Result<bool, PrintError> {
+        let name = self.schema.names().of_member(row).unwrap_or(&[]);
+        if name.is_empty() {
+            return Ok(false);
         }
-    }
-
-    /// Prints the name of a component or an alternative as a key.
-    pub(crate) fn member_key(&mut self, row: usize) -> Result<(), PrintError> {
-        let name = self.schema.names().of_member(row).ok_or(NO_VALUE)?;
-        let name = str::from_utf8(name).map_err(|_| NO_VALUE)?;
-        self.key(name)
+        self.key(str::from_utf8(name).map_err(|_| NO_VALUE)?)?;
+        Ok(true)
     }
 
     /// Prints the name of a component.
@@ -282,9 +285,11 @@ impl<'a> Printer<'a> {
         Ok(())
     }
 
-    /// Prints hexadecimal digits.
-    pub(crate) fn digits(&mut self, text: &str) -> Result<(), PrintError> {
-        if let Some(out) = self.notation() {
+    /// Prints octets as hexadecimal digits.
+    pub(crate) fn hex(&mut self, octets: &[u8]) -> Result<(), PrintError> {
+        let digits = hex_in(octets, &mut self.digits)?;
+        let text = str::from_utf8(digits).map_err(|_| NO_VALUE)?;
+        if let Some(out) = &mut self.notation {
             out.push("'")?;
             out.push(text)?;
             out.push("'H")?;
@@ -292,6 +297,21 @@ impl<'a> Printer<'a> {
         }
         self.out.token(Token::String(text))?;
         Ok(())
+    }
+
+    /// Prints an OBJECT IDENTIFIER by its contents octets, if each subidentifier has at most four. Returns whether it is
+    /// printed.
+    pub(crate) fn short_identifier(&mut self, contents: &[u8]) -> Result<bool, PrintError> {
+        self.arcs.clear();
+        if !append_short_dotted(contents, &mut self.arcs)? {
+            return Ok(false);
+        }
+        let text = str::from_utf8(self.arcs.as_slice()).map_err(|_| NO_VALUE)?;
+        match &mut self.notation {
+            Some(out) => out.arcs(text)?,
+            None => self.out.token(Token::String(text))?,
+        }
+        Ok(true)
     }
 
     /// Prints an identifier, whose arcs full stops join.

@@ -1,8 +1,9 @@
 //! Strings of characters of known alphabets, by their codes.
 
-use crate::bits::number_of;
+use crate::bits::{number_of, whole_octets};
 use asn1_schema::{Characters, Codes, Range, Rows, Span};
 use std::alloc::{AllocError, Global};
+use std::str;
 
 /// Returns the character of an index among those of ranges, in ascending order. `None` if there are
 /// fewer.
@@ -26,6 +27,26 @@ fn character_of(ranges: &[Range], codes: Codes, code: u128) -> Option<char> {
         Codes::Indices(rows) => character_at(ranges, rows, code)?,
     };
     char::from_u32(u32::try_from(number).ok()?)
+}
+
+/// Returns the octets of a string as text, if they are the numbers of its characters and of ASCII. `None` for another
+/// string.
+pub(crate) fn ascii_of(message: &[u8], characters: Characters) -> Option<&str> {
+    let Codes::Numbers = characters.codes else {
+        return None;
+    };
+    if characters.width != 8 {
+        return None;
+    }
+    let span = Span {
+        at: characters.at,
+        count: characters.count.checked_mul(8)?,
+    };
+    let octets = whole_octets(message, span)?;
+    if !octets.is_ascii() {
+        return None;
+    }
+    str::from_utf8(octets).ok()
 }
 
 /// Returns the characters of a string. `None` if the message is shorter, or a code has no character

@@ -21,14 +21,18 @@ pub fn part_of(text: &[u8], from: usize, count: usize) -> &[u8] {
 /// Returns the first item at or after an octet of the text. At the end of the text it is `End`.
 pub fn next_token(text: &[u8], from: usize) -> Token {
     let rest = tail(text, from);
-    let blank = blank_length(rest);
-    match rest.get(blank) {
-        Some(octet) if kind_of(*octet) == OctetKind::Letter => {
-            let at = text.len().saturating_sub(rest.len()).saturating_add(blank);
-            token_at(&rest[blank..], at)
+    let rest = &rest[blank_length(rest)..];
+    match rest.first() {
+        Some(octet) if !begins_gap(*octet) => {
+            token_at(rest, text.len().saturating_sub(rest.len()))
         }
         _ => token_after_gaps(text, rest),
     }
+}
+
+/// Returns whether an octet other than white space may begin a comment or a NO-BREAK SPACE.
+fn begins_gap(octet: u8) -> bool {
+    octet == b'-' || octet == b'/' || octet == 0xC2
 }
 
 /// Returns the first item of the end of a text, after white space and comments.

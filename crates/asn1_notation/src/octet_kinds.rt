@@ -21,22 +21,22 @@ const H: OctetKind = OctetKind::Hyphen;
 
 const B: OctetKind = OctetKind::Blank;
 
-/// The octets below 128, in rows of sixteen.
-static KINDS: [OctetKind; 128] = [
+/// All octets, in rows of 32.
+static KINDS: [OctetKind; 256] = [
     O, O, O, O, O, O, O, O, O, B, B, B, B, B, O, O, O, O, O, O, O, O, O, O, O, O, O, O, O, O, O, O,
     B, O, O, O, O, O, O, O, O, O, O, O, O, H, O, O, L, L, L, L, L, L, L, L, L, L, O, O, O, O, O, O,
     O, L, L, L, L, L, L, L, L, L, L, L, L, L, L, L, L, L, L, L, L, L, L, L, L, L, L, O, O, O, O, O,
     O, L, L, L, L, L, L, L, L, L, L, L, L, L, L, L, L, L, L, L, L, L, L, L, L, L, L, O, O, O, O, O,
+    O, O, O, O, O, O, O, O, O, O, O, O, O, O, O, O, O, O, O, O, O, O, O, O, O, O, O, O, O, O, O, O,
+    O, O, O, O, O, O, O, O, O, O, O, O, O, O, O, O, O, O, O, O, O, O, O, O, O, O, O, O, O, O, O, O,
+    O, O, O, O, O, O, O, O, O, O, O, O, O, O, O, O, O, O, O, O, O, O, O, O, O, O, O, O, O, O, O, O,
+    O, O, O, O, O, O, O, O, O, O, O, O, O, O, O, O, O, O, O, O, O, O, O, O, O, O, O, O, O, O, O, O,
 ];
 
 /// Returns what an octet is.
 #[inline(always)]
 pub(crate) fn kind_of(octet: u8) -> OctetKind {
-    if octet < 128 {
-        KINDS[octet as usize]
-    } else {
-        OctetKind::Other
-    }
+    KINDS[octet as usize]
 }
 
 /// Returns whether an octet is a letter or a digit.

@@ -296,8 +296,15 @@ impl<'m, 'a> Parser<'m, 'a> {
 
     /// Adds an entry with none inside.
     pub fn add(&mut self, item: Item, word: Option<Word>, token: Token) {
-        let index = self.open(item, word, token);
-        self.close(index);
+        let end = narrow(self.tape.count().saturating_add(1));
+        self.tape.push(Entry {
+            item,
+            word,
+            from: narrow(token.from),
+            count: narrow(token.count),
+            end,
+            ..NO_ENTRY
+        });
     }
 
     /// Takes the next item as an entry with none inside.

@@ -229,6 +229,7 @@ pub fn wide(number: u32) -> usize {
 
 impl Item {
     /// Returns whether an entry is a type.
+    #[inline(always)]
     pub fn is_type(self) -> bool {
         match self {
             Item::Plain
@@ -275,6 +276,7 @@ impl Item {
     }
 
     /// Returns whether an entry is a definition.
+    #[inline(always)]
     pub fn is_definition(self) -> bool {
         match self {
             Item::TypeDefinition | Item::ValueDefinition | Item::SetDefinition => true,

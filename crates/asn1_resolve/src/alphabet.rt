@@ -99,23 +99,24 @@ pub fn within(characters: CharacterSet, whole: Rows) -> CharacterSet {
 
 /// Appends the characters of ASCII as ranges. Returns the beginning of a last range that ends with ASCII.
 fn push_ascii(ranges: &mut Sink<'_, Range>, ascii: u128) -> Option<u32> {
-    let mut first = None;
-    for number in 0..128u8 {
-        let is_in = (ascii >> number) & 1 == 1;
-        let here = u32::from(number);
-        match first {
-            None if is_in => first = Some(here),
-            Some(start) if !is_in => {
-                ranges.push(Range {
-                    first: start,
-                    last: here.saturating_sub(1),
-                });
-                first = None;
-            }
-            _ => {}
+    let mut left = ascii;
+    for _ in 0..64 {
+        if left == 0 {
+            break;
         }
+        let first = left.trailing_zeros();
+        // The zeros before the first character are ones too, so that the first zero is after the range.
+        let end = (left | left.wrapping_sub(1)).trailing_ones();
+        let Some(others) = u128::MAX.checked_shl(end) else {
+            return Some(first);
+        };
+        ranges.push(Range {
+            first,
+            last: end.saturating_sub(1),
+        });
+        left &= others;
     }
-    first
+    None
 }
 
 /// Appends characters as ranges, and returns their rows.

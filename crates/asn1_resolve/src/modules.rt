@@ -125,8 +125,12 @@ impl<'m> Builder<'m> {
             let Some(place) = walk.next(scope) else {
                 break;
             };
-            if scope.item(place) == Item::TypeDefinition && !scope.is_parameterized(place) {
+            let item = scope.item(place);
+            if item == Item::TypeDefinition && !scope.is_parameterized(place) {
                 self.add_name(scope, place)?;
+            }
+            if item.is_definition() {
+                walk.skip_inside(scope, place);
             }
         }
         Ok(())

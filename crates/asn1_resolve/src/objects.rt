@@ -84,8 +84,12 @@ pub(crate) fn check_objects(scope: Scope<'_>) -> Result<(), NotationError> {
         let Some(place) = walk.next(scope) else {
             break;
         };
-        match scope.item(place) {
-            _ if scope.is_parameterized(place) => {}
+        let item = scope.item(place);
+        if item.is_definition() {
+            walk.skip_inside(scope, place);
+        }
+        match item {
+            Item::SetDefinition | Item::ValueDefinition if scope.is_parameterized(place) => {}
             Item::SetDefinition => check_set(scope, place)?,
             Item::ValueDefinition => {
                 let class = scope.base(scope.type_in(place))?;

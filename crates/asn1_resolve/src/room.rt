@@ -213,6 +213,11 @@ pub(crate) fn instances_of(
             room = room.saturating_add(1);
         }
     }
+    if room == 1 {
+        // Without arguments there are no instances but the text itself.
+        instances.push(NO_INSTANCE)?;
+        return Ok(instances);
+    }
     // The room doubles until it holds all.
     for _ in 0..ROUNDS {
         instances.resize(room, NO_INSTANCE)?;
