@@ -9,12 +9,17 @@
 //! `der-error` has the text of the fault, and one of `der-explained` what was expected and what was
 //! found. What is decoded is encoded again and measured, unless it
 //! has a part that the encoder leaves. A row of `der-as` has two types: a value of the first is encoded as
-//! one of the second, which makes octets or is a misfit of the part of an index. `scripts/x691-vectors` makes them with another compiler, and
+//! one of the second, which makes octets or is a misfit of the part of an index. A row of `der-fragments` has the octets of a
+//! source, four words that tell a part in fragments, and a type: where the first fragment of 65,536 units is, how many there
+//! are, and the index and the number of the bits of `middle` and of `last`. `scripts/x691-vectors` makes them with another compiler, and
 //! `scripts/x690-model` damages their messages.
 #![tactic(auto)]
 
+mod fragments;
+
 ghost use Rattle.std.specs.Prelude.{◌≡◌};
 
+use crate::fragments::fragments_encoded;
 use asn1_schema::{Part, Tables};
 use asn1_schema_rows::{Schema, Source, schema_of, text_of};
 use asn1_test_rows::{Answers, RowError, hex_of, octets, run, wrong};
@@ -207,8 +212,21 @@ fn encoded_as(
         is_ordered: true,
         lengths: &[],
     };
-    let mut message = vec![in alloc; 0u8; octets.len() + 8]?;
-    match encode(&value, DEPTH, to.node, message.as_mut_slice()) {
+    message_of(alloc, &value, to.node, octets.len() + 8)
+}
+
+/// Encodes a value as at most `room` octets. Returns the octets or the misfit.
+fn message_of(
+    alloc: Global,
+    value: &Value<'_>,
+    node: usize,
+    room: usize,
+) -> Result<String, RowError> {
+    if value.parts.len() > ROOM || value.source.len() > 1_000_000 || room > 4_000_000 {
+        return Err(wrong(alloc, "octets", "message of few octets"));
+    }
+    let mut message = vec![in alloc; 0u8; room]?;
+    match encode(value, DEPTH, node, message.as_mut_slice()) {
         Ok(encoded) => match message.as_slice().get(..encoded.octets) {
             Some(message) => hex_of(alloc, message),
             None => Err(wrong(alloc, "octets", "message of few octets")),
@@ -315,6 +333,10 @@ impl Answers for Calls {
             ("der-as", [message, words @ ..]) => {
                 let message = octets(alloc, message)?;
                 answer_as(alloc, message.as_slice(), words)
+            }
+            ("der-fragments", [message, words @ ..]) => {
+                let message = octets(alloc, message)?;
+                fragments_encoded(alloc, message.as_slice(), words)
             }
             ("der-error", [message, words @ ..]) => {
                 let message = octets(alloc, message)?;

@@ -15,8 +15,8 @@ use Rattle.asn1_x690.specs.declared.tables.TypeTags.{TypeTags}
 use Rattle.asn1_x690.specs.Der.{always, rows_of}
 use Rattle.asn1_x690.specs.Leaves.{IsBoolean, IsNull, IsInteger, IsEnumerated, IsBitString, AreOctets, IsKept, IsObjectIdentifier, IsRelativeIdentifier, IsUtf8Text, width_of, AreCharacters, IsTimeText, HasSize, IsBetween, IsAtLeast, AreTrimmed, AreSized, IsText, IsPermittedValue, leaf_of}
 use Rattle.asn1_x690.specs.TypeContents.{TypeContents}
-use Rattle.asn1_x691_writers.specs.Put.{IsInFragments, AreBitsInFragments}
-use Rattle.asn1_x690_writers.specs.Put.{AreTooMany, IsFarWithout}
+use Rattle.asn1_x691_writers.specs.Put.{IsInFragments}
+use Rattle.asn1_x690_writers.specs.Put.{AreTooMany, AreTooManyBits, IsFarWithout}
 
 -- the most frequent types of one part
 abbrev pub is_frequent : Node → Bool
@@ -58,16 +58,16 @@ leaf_in ranges numbers node t n = no_leaf node
 
 -- ---- what is not written yet
 
--- of an OCTET STRING, 2^64 bits and more; of a BIT STRING, bits in fragments; of octets that are kept by their contents, octets in
--- fragments; of an INTEGER, a number outside -2^127 to 2^127 - 1, if the part does not have its minimal octets
+-- of a BIT STRING, an OCTET STRING and a UTF8String, 2^64 bits and more; of identifiers and of a REAL, octets in fragments; of an
+-- INTEGER, a number outside -2^127 to 2^127 - 1, if the part does not have its minimal octets
 abbrev pub IsLeftOut : List ℕ → Node → Part → Piece → Type 0
 IsLeftOut source (type.IntegerBetween bounds is_extensible) part p = IsFarWithout source part p
 IsLeftOut source (type.IntegerAtLeast bound is_extensible) part p = IsFarWithout source part p
 IsLeftOut source type.Integer part p = IsFarWithout source part p
-IsLeftOut source (type.BitString size is_extensible has_names) part p = AreBitsInFragments part
+IsLeftOut source (type.BitString size is_extensible has_names) part p = AreTooManyBits p
 IsLeftOut source (type.OctetString size is_extensible) part p = AreTooMany p
 IsLeftOut source type.ObjectIdentifier part p = IsInFragments part
 IsLeftOut source type.RelativeIdentifier part p = IsInFragments part
-IsLeftOut source type.Utf8String part p = IsInFragments part
+IsLeftOut source type.Utf8String part p = AreTooMany p
 IsLeftOut source type.Real part p = IsInFragments part
 IsLeftOut source n part p = ⊥

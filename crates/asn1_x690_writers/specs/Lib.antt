@@ -1,5 +1,6 @@
 -- What a call wrote.
 pub mod Written
+pub mod Fragments
 pub mod Put
 pub mod Leaf
 pub mod Numbers
@@ -8,6 +9,7 @@ pub mod Texts
 -- What follows of what calls wrote; no contract cites it.
 pub mod EnumeratedSteps
 pub mod FarSteps
+pub mod FragmentSteps
 pub mod HeaderSteps
 pub mod NumberSteps
 pub mod OctetSteps

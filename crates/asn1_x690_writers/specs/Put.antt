@@ -5,7 +5,7 @@ use Rattle.asn1_bits.specs.Bits.{bits}
 use Rattle.asn1_schema.specs.declared.part.Part.{Part}
 use Rattle.asn1_schema.specs.declared.part.Part.TheVariants.{Signed}
 use Rattle.asn1_schema.specs.declared.part.Span.{Span}
-use Rattle.asn1_schema.specs.Pieces.{Piece, Parts, Octets}
+use Rattle.asn1_schema.specs.Pieces.{Piece, Parts, Bits, Octets}
 use Rattle.asn1_schema.specs.PiecesOfParts.{bits_of}
 use Rattle.asn1_x690.specs.Leaves.{IsInteger}
 use Rattle.asn1_x690.specs.declared.fault.FaultKind.{FaultKind}
@@ -37,6 +37,10 @@ pub record IsFarWithout (source : List ℕ) (part : Part) (p : Piece) : Type 0 w
 -- octets of 2^64 bits and more, which only fragments over one another have
 abbrev pub AreTooMany : Piece → Type 0
 AreTooMany p = (x : List Bool) × (p ≡ Octets x) × (2 ^ 64 ≤ length x)
+
+-- 2^64 bits and more
+abbrev pub AreTooManyBits : Piece → Type 0
+AreTooManyBits p = (x : List Bool) × (p ≡ Bits x) × (2 ^ 64 ≤ length x)
 
 -- this holds of a part that is left, and the state names the node of its type
 pub record LeftAt (Left : Type 0) (node : ℕ) (new : Writer) : Type 0 where

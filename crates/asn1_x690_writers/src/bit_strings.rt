@@ -6,15 +6,16 @@ ghost use Rattle.asn1_schema.specs.declared.tables.Range.{Range};
 ghost use Rattle.asn1_schema.specs.Pieces.{Bits};
 ghost use Rattle.asn1_schema.specs.PiecesOfParts.{bits_of};
 ghost use Rattle.asn1_x690.specs.Leaves.{AreTrimmed, HasSize, IsBitString, leaf_of};
-ghost use Rattle.asn1_x690_writers.specs.Put.{IsPut, LeftAt};
+ghost use Rattle.asn1_x690_writers.specs.Put.{AreTooManyBits, IsPut, LeftAt};
 ghost use Rattle.asn1_x690_writers.specs.Strings.{IsStringWritten};
-ghost use Rattle.asn1_x691_writers.specs.Put.{AreBitsInFragments, piece_in};
+ghost use Rattle.asn1_x691_writers.specs.Put.{piece_in};
 
+use crate::bits_in_fragments::put_bits_in_fragments;
 use crate::octets::put_span;
 use crate::sizes::has_size;
 use asn1_schema::{Length, MisfitKind, Part, Span};
 use asn1_x690_leaves::are_bits_permitted;
-use asn1_x691_writers::{Writer, clip, leave, put_number, reject};
+use asn1_x691_writers::{Writer, clip, put_number, reject};
 
 /// Writes how many bits of the last octet are unused, the bits, and zeros for the unused ones.
 /// Returns the index after them.
@@ -42,7 +43,7 @@ pub(crate) fn put_bit_string(
 ) -> bool
     requires size { 8 * length octets.old < 2 ^ 64 }
     requires source { 8 * length source.now < 2 ^ 64 }
-    ensures { (ranges : List Range) → IsPut (LeftAt (AreBitsInFragments part) node state.new) (leaf_of IsBitString (λ bits. HasSize is_extensible size (length bits) × AreTrimmed has_names size bits) Bits node)
+    ensures { (ranges : List Range) → IsPut (LeftAt (AreTooManyBits (piece_in ranges source.now part)) node state.new) (leaf_of IsBitString (λ bits. HasSize is_extensible size (length bits) × AreTrimmed has_names size bits) Bits node)
         (piece_in ranges source.now part) octets.old state.old octets.new state.new result }
 {
     match part {
@@ -57,7 +58,18 @@ pub(crate) fn put_bit_string(
             state.at = put_string(octets, state.at, source, inside);
             true
         }
-        Part::BitsInFragments(_) => leave(state, node),
+        Part::BitsInFragments(fragments) => {
+            put_bits_in_fragments(
+                octets,
+                size,
+                is_extensible,
+                has_names,
+                source,
+                fragments,
+                node,
+                state,
+            )
+        }
         _ => reject(state, node, MisfitKind::OtherPart),
     }
 }

@@ -12,15 +12,14 @@ use crate::octet_strings::{put_kept, put_octet_string};
 use crate::simple::{put_boolean, put_null};
 use crate::texts::put_text;
 use crate::times::put_time;
+use crate::utf8_strings::put_utf8_string;
 use asn1_schema::{MisfitKind, Node, Part, Range};
 use asn1_x690::TypeTags;
 use asn1_x691_writers::{ContentsKind, Writer, reject};
 
 /// Writes the contents octets of a part, as a value of a type of one part. Returns whether it did.
 /// If it returns `false`, the state has the reason.
-// A hint to inline a function that would grow very large is dropped. Its callers have that hint, and keep it
-// where this is a call.
-#[inline(never)]
+#[inline(always)]
 pub fn put_leaf(
     octets: &mut [u8],
     ranges: &[Range],
@@ -59,6 +58,9 @@ pub fn put_leaf(
 }
 
 /// Writes the contents octets of a part, as a value of one of the rarer types of one part.
+// A hint to inline a function that would grow very large is dropped. The callers of `put_leaf` have that hint, and
+// keep it where this is a call.
+#[inline(never)]
 fn put_rare_leaf(
     octets: &mut [u8],
     ranges: &[Range],
@@ -89,7 +91,7 @@ fn put_rare_leaf(
                 state,
             )
         }
-        Node::Utf8String => put_kept(octets, ContentsKind::Utf8, source, *part, node, state),
+        Node::Utf8String => put_utf8_string(octets, source, *part, node, state),
         Node::Real => put_kept(octets, ContentsKind::Real, source, *part, node, state),
         Node::Time { kind } => put_time(octets, ranges, kind, source, *part, node, state),
         Node::IntegerBetween {

@@ -7,7 +7,9 @@
 #![tactic(auto)]
 
 mod bit_strings;
+mod bits_in_fragments;
 mod enumerations;
+mod fragments;
 mod identifiers;
 mod integers;
 mod leaf;
@@ -18,6 +20,7 @@ mod simple;
 mod sizes;
 mod texts;
 mod times;
+mod utf8_strings;
 
 pub use identifiers::put_identifier;
 pub use leaf::put_leaf;

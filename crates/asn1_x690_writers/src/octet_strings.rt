@@ -86,6 +86,7 @@ fn put_joined(
 }
 
 /// Returns whether bits of a source are octets of this kind.
+#[inline(always)]
 fn is_of_kind(kind: ContentsKind, source: &[u8], span: Span) -> bool
     requires size { 8 * length source.now < 2 ^ 64 }
     requires inside { span.at + span.count ≤ 8 * length source.now }

@@ -45,9 +45,9 @@ returns-in-Utf8String c =
     let k = c.in-Utf8String in
     let p = piece_in a.ranges.now a.source.now a.part.now in
     subst
-    (λ (n : Node). IsPut (LeftAt (IsLeftOut a.source.now n a.part.now p) a.node c.put_kept-in-Utf8String.new.state) (leaf_in a.ranges.now a.numbers.now a.node a.tags.now n) p a.octets.now a.state.now
-    c.put_kept-in-Utf8String.new.octets c.put_kept-in-Utf8String.new.state c.put_kept-in-Utf8String.result) (sym k.is)
-    (c.put_kept-in-Utf8String.ensures a.ranges.now)
+    (λ (n : Node). IsPut (LeftAt (IsLeftOut a.source.now n a.part.now p) a.node c.put_utf8_string.new.state) (leaf_in a.ranges.now a.numbers.now a.node a.tags.now n) p a.octets.now a.state.now
+    c.put_utf8_string.new.octets c.put_utf8_string.new.state c.put_utf8_string.result) (sym k.is)
+    (c.put_utf8_string.ensures a.ranges.now)
 
 pub returns-in-Real : goal.returns-in-Real
 returns-in-Real c =
