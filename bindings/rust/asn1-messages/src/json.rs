@@ -106,22 +106,30 @@ impl Pretty {
 
     fn string(&mut self, text: &str) -> Result<(), AllocError> {
         self.out.push(b'"')?;
-        for octet in text.bytes() {
-            match octet {
-                b'"' | b'\\' => self.out.extend_from_slice(&[b'\\', octet])?,
-                8 => self.out.extend_from_slice(b"\\b")?,
-                9 => self.out.extend_from_slice(b"\\t")?,
-                10 => self.out.extend_from_slice(b"\\n")?,
-                12 => self.out.extend_from_slice(b"\\f")?,
-                13 => self.out.extend_from_slice(b"\\r")?,
-                0..32 => {
-                    let digit = b"0123456789abcdef"[usize::from(octet % 16)];
-                    self.out.extend_from_slice(&[b'\\', b'u', b'0', b'0', b'0' + octet / 16, digit])?
-                }
-                _ => self.out.push(octet)?,
-            }
+        let mut rest = text.as_bytes();
+        while let Some(count) = rest.iter().position(|it| *it < 32 || *it == b'"' || *it == b'\\') {
+            self.out.extend_from_slice(&rest[..count])?;
+            self.escape(rest[count])?;
+            rest = &rest[count + 1..];
         }
+        self.out.extend_from_slice(rest)?;
         Ok(self.out.push(b'"')?)
+    }
+
+    fn escape(&mut self, octet: u8) -> Result<(), AllocError> {
+        let letter = match octet {
+            b'"' | b'\\' => octet,
+            8 => b'b',
+            9 => b't',
+            10 => b'n',
+            12 => b'f',
+            13 => b'r',
+            _ => {
+                let digit = b"0123456789abcdef"[usize::from(octet % 16)];
+                return self.out.extend_from_slice(&[b'\\', b'u', b'0', b'0', b'0' + octet / 16, digit]);
+            }
+        };
+        self.out.extend_from_slice(&[b'\\', letter])
     }
 }
 

@@ -206,12 +206,12 @@ impl<T> IntoIterator for Vec<T> {
 
 /// A string whose growth can fail.
 #[derive(Debug, PartialEq, Eq, PartialOrd, Ord, Hash)]
-pub struct String(Vec<u8>);
+pub struct String(alloc::string::String);
 
 impl String {
     /// Returns an empty string.
-    pub fn new(alloc: Global) -> String {
-        String(Vec::new(alloc))
+    pub fn new(_alloc: Global) -> String {
+        String(alloc::string::String::new())
     }
 
     /// Returns a copy of a text.
@@ -223,7 +223,9 @@ impl String {
 
     /// Appends a text.
     pub fn push_str(&mut self, text: &str) -> Result<(), AllocError> {
-        self.0.extend_from_slice(text.as_bytes())
+        self.0.try_reserve(text.len()).map_err(|_| AllocError)?;
+        self.0.push_str(text);
+        Ok(())
     }
 
     /// Appends a character.
@@ -238,12 +240,12 @@ impl String {
 
     /// Returns the text.
     pub fn as_str(&self) -> &str {
-        str::from_utf8(&self.0).unwrap_or_default()
+        &self.0
     }
 
     /// Returns the octets of the text.
     pub fn into_bytes(self) -> Vec<u8> {
-        self.0
+        Vec(self.0.into_bytes())
     }
 }
 
