@@ -37,6 +37,33 @@ impl Message<'_> {
         Value::whole(view, self.codec.node)
     }
 
+    /// Returns the value at a path, as errors print it: names of components and of the alternatives of a
+    /// CHOICE, and indexes of items, as `extensions[0].extnID`. The empty path is the whole value.
+    ///
+    /// ```
+    /// # use asn1_messages::{Error, Rules, Schema};
+    /// let schema = Schema::parse("L DEFINITIONS ::= BEGIN Lists ::= SEQUENCE { all SEQUENCE OF BOOLEAN } END")?;
+    /// let lists = schema.codec("Lists", Rules::Der)?;
+    /// let message = lists.decode(&[0x30, 8, 0x30, 6, 1, 1, 0, 1, 1, 0xFF])?;
+    /// let view = message.view();
+    /// assert_eq!(message.find(&view, "all[1]").and_then(|it| it.as_bool()), Some(true));
+    /// assert!(message.find(&view, "all[2]").is_none());
+    /// # Ok::<(), Error>(())
+    /// ```
+    pub fn find<'v>(&self, view: &'v asn1_schema_values::Message<'v>, path: &str) -> Option<Value<'v>> {
+        let mut value = self.value(view);
+        for step in path.split(['.', '[']).filter(|it| !it.is_empty()) {
+            value = match step.strip_suffix(']') {
+                Some(index) => value.item(index.parse().ok()?)?,
+                None => match value.choice() {
+                    Some((name, chosen)) if name == step.as_bytes() => chosen,
+                    _ => value.get(step)?,
+                },
+            };
+        }
+        Some(value)
+    }
+
     /// Encodes the value by other rules, or for another type of the same structure.
     ///
     /// # Errors
