@@ -28,28 +28,61 @@ static void show(const asn1m_message *message, const char *path) {
     asn1m_octets_free(&text);
 }
 
+/* Prints the value of a type whose DER a message has at a path. */
+static int show_inner(const asn1m_schema *schema, const char *type, const asn1m_message *outer, const char *path) {
+    asn1m_codec *codec = NULL;
+    asn1m_message *message = NULL;
+    asn1m_octets der, error, text;
+    int code = asn1m_get_octets(outer, path, &der);
+    if (!code) code = asn1m_codec_new(schema, type, ASN1M_DER, 0, &codec, &error);
+    if (!code) code = asn1m_decode(codec, der.at, der.count, &message, &error);
+    if (!code) code = asn1m_get_text(message, "", &text);
+    if (!code) {
+        printf("%s %s\n", type, (char *)text.at);
+        asn1m_octets_free(&text);
+    }
+    asn1m_octets_free(&der);
+    asn1m_codec_free(codec);
+    asn1m_message_free(message);
+    return code;
+}
+
 static int certificate(const char *module, size_t module_count, const char *der, size_t der_count) {
-    static const char *const paths[] = {
-        "tbsCertificate.version", "tbsCertificate.validity.notBefore.utcTime", "tbsCertificate.extensions[0].extnID",
-        "tbsCertificate.issuerUniqueID",
-    };
+    static const char subject[] = "tbsCertificate.subject.rdnSequence", extensions[] = "tbsCertificate.extensions";
     asn1m_schema *schema;
     asn1m_codec *codec;
     asn1m_message *message;
-    asn1m_octets error, again;
+    asn1m_octets error, again, id;
+    char path[80];
     size_t count = 0, i;
     int64_t version = -1;
     if (asn1m_schema_parse(module, module_count, &schema, &error)) return failed("the module", &error);
     if (asn1m_codec_new(schema, "Certificate", ASN1M_DER, 0, &codec, &error)) return failed("the type", &error);
-    asn1m_schema_free(schema);
     if (asn1m_decode(codec, (const uint8_t *)der, der_count, &message, &error)) return failed("the certificate", &error);
-    for (i = 0; i < sizeof paths / sizeof *paths; i++) show(message, paths[i]);
-    if (asn1m_get_i64(message, paths[0], &version) != ASN1M_DONE || asn1m_get_i64(message, paths[1], &version) != ASN1M_ABSENT) return 1;
-    if (asn1m_get_count(message, "tbsCertificate.extensions", &count) != ASN1M_DONE) return 1;
-    printf("version %d with %d extensions\n", (int)version + 1, (int)count);
+    if (asn1m_get_i64(message, "tbsCertificate.version", &version) != ASN1M_DONE) return 1;
+    if (asn1m_get_i64(message, "tbsCertificate.validity", &version) != ASN1M_ABSENT) return 1;
+    printf("version %d\n", (int)version + 1);
+    show(message, "tbsCertificate.validity");
+    show(message, "tbsCertificate.issuerUniqueID");
+    if (asn1m_get_count(message, subject, &count)) return 1;
+    for (i = 0; i < count; i++) {
+        snprintf(path, sizeof path, "%s[%d][0].value", subject, (int)i);
+        if (show_inner(schema, "DirectoryString", message, path)) return 1;
+    }
+    if (asn1m_get_count(message, extensions, &count)) return 1;
+    for (i = 0; i < count; i++) {
+        snprintf(path, sizeof path, "%s[%d].extnID", extensions, (int)i);
+        if (asn1m_get_text(message, path, &id)) return 1;
+        snprintf(path, sizeof path, "%s[%d].extnValue", extensions, (int)i);
+        /* RFC 5280 4.2.1.3 and 4.2.1.9 */
+        if (!strcmp((char *)id.at, "{ 2 5 29 15 }") && show_inner(schema, "KeyUsage", message, path)) return 1;
+        if (!strcmp((char *)id.at, "{ 2 5 29 19 }") && show_inner(schema, "BasicConstraints", message, path)) return 1;
+        asn1m_octets_free(&id);
+    }
     if (asn1m_encode(codec, message, &again) || again.count != der_count || memcmp(again.at, der, der_count)) return failed("again", &again);
-    asn1m_codec_free(codec);
     asn1m_octets_free(&again);
+    asn1m_schema_free(schema);
+    asn1m_codec_free(codec);
     asn1m_message_free(message);
     return 0;
 }

@@ -1,6 +1,6 @@
 //! The library for C of asn1-messages: `bindings/c/asn1_messages.h` says what each function does.
 
-use asn1_messages::{BitStr, Codec, Error, Message, Part, Rules, Schema, Value};
+use asn1_messages::{Codec, Error, Message, Rules, Schema};
 use std::ffi::{CStr, c_char, c_int};
 use std::slice::from_raw_parts;
 use std::sync::Arc;
@@ -204,15 +204,27 @@ pub unsafe extern "C" fn asn1m_encode(codec: &OwnedCodec, message: &OwnedMessage
     put(message.message.encode(&codec.codec), octets)
 }
 
-/// Calls a function with the value at a path. Returns whether it returned something.
-unsafe fn at<T>(message: &OwnedMessage, path: *const c_char, out: &mut T, get: impl FnOnce(Value<'_>) -> Option<T>) -> c_int {
-    let view = message.message.view();
-    let path = unsafe { CStr::from_ptr(path) }.to_str().unwrap_or("\0");
-    match message.message.find(&view, path).and_then(get) {
-        Some(found) => {
-            *out = found;
+/// Returns the path that C wrote. One that is not UTF-8 leads to no value.
+unsafe fn path_of<'a>(path: *const c_char) -> &'a str {
+    unsafe { CStr::from_ptr(path) }.to_str().unwrap_or("\0")
+}
+
+/// Writes what is found. Returns whether something is.
+fn found<T>(value: Option<T>, out: &mut T) -> c_int {
+    match value {
+        Some(it) => {
+            *out = it;
             DONE
         }
+        None => ABSENT,
+    }
+}
+
+/// Writes a copy of octets that are found. Returns whether some are.
+fn found_octets(octets: Option<impl AsRef<[u8]>>, out: &mut Octets) -> c_int {
+    *out = NOTHING;
+    match octets {
+        Some(it) => put(Ok(it), out),
         None => ABSENT,
     }
 }
@@ -222,19 +234,7 @@ unsafe fn at<T>(message: &OwnedMessage, path: *const c_char, out: &mut T, get: i
 /// As the header says.
 #[unsafe(no_mangle)]
 pub unsafe extern "C" fn asn1m_get_text(message: &OwnedMessage, path: *const c_char, text: &mut Octets) -> c_int {
-    *text = NOTHING;
-    unsafe { at(message, path, text, |it| Octets::of(it.to_string().as_bytes()).ok()) }
-}
-
-/// Returns a number that fits 64 bits.
-fn number_of(value: Value<'_>) -> Option<i64> {
-    match value.message.parts.get(value.at)? {
-        Part::Truth(truth) => Some(i64::from(*truth)),
-        Part::Enumerated(index) => i64::try_from(*index).ok(),
-        Part::Integer(number) => i64::try_from(*number).ok(),
-        Part::Above { .. } | Part::Signed(_) => value.to_string().parse().ok(),
-        _ => None,
-    }
+    found_octets(message.message.text(unsafe { path_of(path) }), text)
 }
 
 /// # Safety
@@ -242,13 +242,7 @@ fn number_of(value: Value<'_>) -> Option<i64> {
 /// As the header says.
 #[unsafe(no_mangle)]
 pub unsafe extern "C" fn asn1m_get_i64(message: &OwnedMessage, path: *const c_char, value: &mut i64) -> c_int {
-    unsafe { at(message, path, value, number_of) }
-}
-
-/// Returns whole octets of bits.
-fn octets_of(bits: BitStr<'_>) -> Option<Octets> {
-    let octet = |first| (first..first + 8).fold(0, |sum, at| sum << 1 | u8::from(bits.get(at)));
-    Octets::of(&(0..bits.len() / 8).map(|it| octet(8 * it)).collect::<Vec<u8>>()).ok()
+    found(message.message.number(unsafe { path_of(path) }), value)
 }
 
 /// # Safety
@@ -256,8 +250,7 @@ fn octets_of(bits: BitStr<'_>) -> Option<Octets> {
 /// As the header says.
 #[unsafe(no_mangle)]
 pub unsafe extern "C" fn asn1m_get_octets(message: &OwnedMessage, path: *const c_char, octets: &mut Octets) -> c_int {
-    *octets = NOTHING;
-    unsafe { at(message, path, octets, |it| octets_of(it.as_octets().or_else(|| it.as_signed_octets())?)) }
+    found_octets(message.message.octets(unsafe { path_of(path) }), octets)
 }
 
 /// # Safety
@@ -265,7 +258,7 @@ pub unsafe extern "C" fn asn1m_get_octets(message: &OwnedMessage, path: *const c
 /// As the header says.
 #[unsafe(no_mangle)]
 pub unsafe extern "C" fn asn1m_get_count(message: &OwnedMessage, path: *const c_char, count: &mut usize) -> c_int {
-    unsafe { at(message, path, count, |it| it.item_count()) }
+    found(message.message.count(unsafe { path_of(path) }), count)
 }
 
 /// # Safety

@@ -4,6 +4,7 @@ use crate::asn1::args::Output;
 use crate::asn1_schema::Part;
 use crate::asn1_schema_values::{self, Value};
 use crate::schema::{Codec, Error};
+use alloc::string::{String, ToString};
 use alloc::vec::Vec;
 use core::fmt;
 
@@ -48,6 +49,7 @@ impl Message<'_> {
     /// let view = message.view();
     /// assert_eq!(message.find(&view, "all[1]").and_then(|it| it.as_bool()), Some(true));
     /// assert!(message.find(&view, "all[2]").is_none());
+    /// assert_eq!((message.count("all"), message.number("all[0]")), (Some(2), Some(0)));
     /// # Ok::<(), Error>(())
     /// ```
     pub fn find<'v>(&self, view: &'v asn1_schema_values::Message<'v>, path: &str) -> Option<Value<'v>> {
@@ -62,6 +64,40 @@ impl Message<'_> {
             };
         }
         Some(value)
+    }
+
+    /// Returns the value at a path in the value notation of X.680. `None` if there is none.
+    pub fn text(&self, path: &str) -> Option<String> {
+        Some(self.find(&self.view(), path)?.to_string())
+    }
+
+    /// Returns the number of an INTEGER at a path, the index of an ENUMERATED, or 0 or 1 for a BOOLEAN. `None`
+    /// if there is no such value, or the number does not fit.
+    pub fn number(&self, path: &str) -> Option<i64> {
+        let view = self.view();
+        let value = self.find(&view, path)?;
+        match view.parts.get(value.at)? {
+            Part::Truth(truth) => Some(i64::from(*truth)),
+            Part::Enumerated(index) => i64::try_from(*index).ok(),
+            Part::Integer(number) => i64::try_from(*number).ok(),
+            Part::Above { .. } | Part::Signed(_) => value.to_string().parse().ok(),
+            _ => None,
+        }
+    }
+
+    /// Returns the octets of an OCTET STRING or of an open type at a path, or the minimal octets of an INTEGER
+    /// (X.690 8.3). `None` if there is no such value, or a part has the number of an INTEGER itself.
+    pub fn octets(&self, path: &str) -> Option<Vec<u8>> {
+        let view = self.view();
+        let value = self.find(&view, path)?;
+        let bits = value.as_octets().or_else(|| value.as_signed_octets())?;
+        let octet = |at| (8 * at..8 * at + 8).fold(0, |sum, it| sum << 1 | u8::from(bits.get(it)));
+        Some((0..bits.len() / 8).map(octet).collect())
+    }
+
+    /// Returns how many items a SEQUENCE OF or a SET OF at a path has. `None` if there is no such value.
+    pub fn count(&self, path: &str) -> Option<usize> {
+        self.find(&self.view(), path)?.item_count()
     }
 
     /// Encodes the value by other rules, or for another type of the same structure.

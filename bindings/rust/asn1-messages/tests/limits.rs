@@ -1,6 +1,6 @@
 //! What the messages of the repository do not show: errors of modules, limits, and other rules.
 
-use asn1_messages::{Error, Rules, Schema};
+use asn1_messages::{Codec, Error, Message, Rules, Schema};
 
 const NESTED: &str = "Nested DEFINITIONS AUTOMATIC TAGS ::= BEGIN
     List ::= SEQUENCE OF List
@@ -50,6 +50,30 @@ fn a_value_is_encoded_by_other_rules() {
     let message = der.decode(&octets).unwrap();
     let by_per = message.encode(&aper).unwrap();
     assert_eq!(aper.decode(&by_per).unwrap().encode(&der), Ok(octets));
+}
+
+#[test]
+fn threads_may_share_all_of_it() {
+    fn is_shared<T: Send + Sync>() {}
+    is_shared::<Schema>();
+    is_shared::<Codec<'_>>();
+    is_shared::<Message<'_>>();
+}
+
+#[test]
+fn values_are_found_by_paths() {
+    let schema = Schema::parse(NESTED).unwrap();
+    let choice = schema.codec("Choice", Rules::Der).unwrap();
+    let octets = choice.encode_json(r#"{"names": ["b", "a"]}"#).unwrap();
+    let message = choice.decode(&octets).unwrap();
+    let view = message.view();
+    let text = |path: &str| message.find(&view, path).map(|it| it.to_string());
+    assert_eq!(text("names[1]"), Some("\"b\"".into()));
+    assert_eq!(text("names").as_deref(), Some("{\"a\", \"b\"}"));
+    assert_eq!(text(""), Some(message.to_string()));
+    for path in ["names[2]", "names[x]", "names.a", "number", "names[0][0]", "other", "\0"] {
+        assert_eq!(text(path), None, "{path}");
+    }
 }
 
 #[test]
